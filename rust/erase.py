@@ -17,6 +17,7 @@ from eraser.items import drop_bounds, error_impls, items
 from eraser.paths import INLINED, fmt_calls, inlined, paths
 from eraser.requires import HERE
 from eraser.tokens import Bad, tokens
+from eraser.word_page import page
 
 def erase(source, crate, libs, root, outer):
     t = take_ghost(tokens(source))
@@ -80,7 +81,8 @@ def main():
                     text += f'\n/// By hand.\n#[path = "{LENT[crate, path]}"]\npub(crate) mod lent;\n'
                 to = f"{out}/{crate}/{'mod' if path in ('lib', 'main') else path}.rs"
                 put(to, text, check, differ, made); count += 1
-    if not outer: put(f"{out}/../clauses.rs", macro(), check, differ, made); count += 1
+    if not outer:
+        for file, text in (("clauses.rs", macro()), ("words.md", page())): put(f"{out}/../{file}", text, check, differ, made); count += 1
     for to in differ: print(f"differs: {to}")
     print(f"{count} files erased, {bad} not" if not check else f"{count} files compared, {len(differ)} differ, {bad} not erased")
     sys.exit(1 if bad or differ else 0)

@@ -17,6 +17,8 @@ ghost next_gives = { DrainSteps K.data_of };
 
 ghost remaining = { drain_count drain_live };
 ```
+
+Words: [`drain_count`](crate::words#drain_count-of-slotmap_core-draining), [`drain_live`](crate::words#drain_live), [`DrainCanStep`](crate::words#draincanstep), [`DrainSteps`](crate::words#drainsteps-of-slotmap_basic-drain).
 "## };
     (slotmap_basic Drain size_hint) => { r##"
 # Proved
@@ -29,6 +31,8 @@ fn size_hint(&self) -> (usize, Option<usize>)
     ensures upper { IfSome result.1 (UpTo (drain_count drain_live self.now)) }
     ensures exact { result ≡ (size (drain_count drain_live self.now), Some (size (drain_count drain_live self.now))) }
 ```
+
+Words: [`drain_count`](crate::words#drain_count-of-slotmap_core-draining), [`drain_live`](crate::words#drain_live).
 "## };
     (slotmap_basic IntoIter clone) => { r##"
 # Proved
@@ -40,6 +44,8 @@ pub fn clone(&self) -> Result<Self, AllocError>
     ensures clones { IfOk result (AreClones V.is_clone self.now) }
     ensures copies_if_clones_equal { IfOk result (λ copy. ClonesEqual V.is_clone → copy ≡ self.now) }
 ```
+
+Words: [`AreClones`](crate::words#areclones), [`ClonesEqual`](crate::words#clonesequal).
 "## };
     (slotmap_basic IntoIter len) => { r##"
 # Proved
@@ -183,6 +189,8 @@ pub fn capacity(&self) -> usize
     ensures places { places self.now ≤ result }
     ensures valid { IsContent true self.now }
 ```
+
+Words: [`capacity`](crate::words#capacity-of-slotmap_core-content), [`IsContent`](crate::words#iscontent), [`places`](crate::words#places-of-slotmap_core-content).
 "## };
     (slotmap_basic SlotMap clear) => { r##"
 # Proved
@@ -196,6 +204,8 @@ pub fn clear(&mut self)
     ensures freed_order { FreesByIndex self.old self.new }
     ensures valid { StaysValid true self.old self.new }
 ```
+
+Words: [`FreesByIndex`](crate::words#freesbyindex), [`Leaves`](crate::words#leaves), [`live`](crate::words#live), [`StaysValid`](crate::words#staysvalid).
 "## };
     (slotmap_basic SlotMap clone) => { r##"
 # Proved
@@ -208,6 +218,8 @@ pub fn clone(&self) -> Result<Self, AllocError>
     ensures copies_if_clones_equal { IfOk result (λ copy. ClonesEqual V.is_clone → IsCopy self.now copy) }
     ensures valid { IfOk result (IsContent true) }
 ```
+
+Words: [`ClonesEqual`](crate::words#clonesequal), [`IsCloneBy`](crate::words#iscloneby), [`IsContent`](crate::words#iscontent), [`IsCopy`](crate::words#iscopy).
 "## };
     (slotmap_basic SlotMap clone_from) => { r##"
 # Proved
@@ -223,6 +235,8 @@ where
     ensures unchanged { OnErr result (self.new ≡ self.old) }
     ensures valid { OnOk result (IsContent true self.new) }
 ```
+
+Words: [`ClonesEqual`](crate::words#clonesequal), [`IsCloneBy`](crate::words#iscloneby), [`IsContent`](crate::words#iscontent), [`IsCopy`](crate::words#iscopy).
 "## };
     (slotmap_basic SlotMap contains_key) => { r##"
 # Proved
@@ -234,6 +248,8 @@ pub fn contains_key(&self, key: K) -> bool
     ensures value { result ≡ map.contains_key self.now.live (K.data_of key) }
     ensures valid { IsContent true self.now }
 ```
+
+Words: [`IsContent`](crate::words#iscontent), [`live`](crate::words#live).
 "## };
     (slotmap_basic SlotMap detach) => { r##"
 # Proved
@@ -248,6 +264,8 @@ pub fn detach(&mut self, key: K) -> Option<V>
     ensures live { self.new.live ≡ map.remove self.old.live (K.data_of key) }
     ensures valid { StaysValid true self.old self.new }
 ```
+
+Words: [`Detaches`](crate::words#detaches), [`live`](crate::words#live), [`StaysValid`](crate::words#staysvalid).
 "## };
     (slotmap_basic SlotMap drain) => { r##"
 # Proved
@@ -267,6 +285,8 @@ pub fn drain(&mut self) -> Drain<'_, K, V>
 
     ensures valid { IsContent true self.old }
 ```
+
+Words: [`drain_live`](crate::words#drain_live), [`drain_loan`](crate::words#drain_loan-of-slotmap_basic-drain), [`DrainCanStep`](crate::words#draincanstep), [`DrainSteps`](crate::words#drainsteps-of-slotmap_basic-drain), [`EmptiesByIndex`](crate::words#emptiesbyindex), [`InOrderAlong`](crate::words#inorderalong), [`IsContent`](crate::words#iscontent), [`KeepsAlong`](crate::words#keepsalong), [`KeepsLoan`](crate::words#keepsloan), [`ListsAlong`](crate::words#listsalong).
 "## };
     (slotmap_basic SlotMap drain_into) => { r##"
 # Proved
@@ -284,6 +304,8 @@ pub fn drain_into(&mut self, out: &mut Vec<(K, V)>) -> Result<(), OutOfMemory>
     ensures unchanged { OnErr result ((self.new ≡ self.old) × (out.new.items ≡ out.old.items)) }
     ensures valid { StaysValid true self.old self.new }
 ```
+
+Words: [`FreesByIndex`](crate::words#freesbyindex), [`Leaves`](crate::words#leaves), [`live`](crate::words#live), [`StaysValid`](crate::words#staysvalid).
 "## };
     (slotmap_basic SlotMap from_slots) => { r##"
 # Proved
@@ -300,6 +322,8 @@ pub fn from_slots(alloc: Global, list: Vec<SlotRecord<V>>) -> Result<Self, Slots
     ensures accepted { IsOk result → Accepts list.items list_limit }
     ensures err { IfErr result (RefusesStart list.items list_limit) }
 ```
+
+Words: [`Accepts`](crate::words#accepts), [`list_limit`](crate::words#list_limit), [`ReadsAs`](crate::words#readsas), [`RefusesStart`](crate::words#refusesstart), [`stack`](crate::words#stack), [`start_stack`](crate::words#start_stack).
 "## };
     (slotmap_basic SlotMap get) => { r##"
 # Proved
@@ -311,6 +335,8 @@ pub fn get(&self, key: K) -> Option<&V>
     ensures value { option_copied result ≡ map.get self.now.live (K.data_of key) }
     ensures valid { IsContent true self.now }
 ```
+
+Words: [`IsContent`](crate::words#iscontent), [`live`](crate::words#live).
 "## };
     (slotmap_basic SlotMap get_mut) => { r##"
 # Proved
@@ -323,6 +349,8 @@ pub fn get_mut(&mut self, key: K) -> Option<&mut V>
     ensures value { option_copied_mut result ≡ map.get self.old.live (K.data_of key) }
     ensures valid { IsContent true self.old }
 ```
+
+Words: [`IsContent`](crate::words#iscontent), [`lends_get`](crate::words#lends_get-of-slotmap_basic-lends), [`live`](crate::words#live).
 "## };
     (slotmap_basic SlotMap get_unchecked) => { r##"
 # Proved
@@ -335,6 +363,8 @@ pub fn get_unchecked(&self, key: K) -> &V
     ensures value { map.get self.now.live (K.data_of key) ≡ Some result.now }
     ensures valid { IsContent true self.now }
 ```
+
+Words: [`IsContent`](crate::words#iscontent), [`IsLive`](crate::words#islive), [`live`](crate::words#live).
 "## };
     (slotmap_basic SlotMap get_unchecked_mut) => { r##"
 # Proved
@@ -348,6 +378,8 @@ pub fn get_unchecked_mut(&mut self, key: K) -> &mut V
     ensures value { map.get self.old.live (K.data_of key) ≡ Some result.now }
     ensures valid { IsContent true self.old }
 ```
+
+Words: [`IsContent`](crate::words#iscontent), [`IsLive`](crate::words#islive), [`lends_value`](crate::words#lends_value-of-slotmap_basic-lends), [`live`](crate::words#live).
 "## };
     (slotmap_basic SlotMap index) => { r##"
 # Proved
@@ -361,6 +393,8 @@ ghost can_index = { λ m key. IsLive m (K.data_of key) };
 
 ghost index_gives = { λ m key value. map.get m.live (K.data_of key) ≡ Some value };
 ```
+
+Words: [`IsLive`](crate::words#islive), [`live`](crate::words#live).
 "## };
     (slotmap_basic SlotMap index_mut) => { r##"
 # Proved
@@ -374,6 +408,8 @@ fn index_mut(&mut self, key: K) -> &mut V
     ensures value { map.get self.old.live (K.data_of key) ≡ Some result.now }
     ensures valid { IsContent true self.old }
 ```
+
+Words: [`IsContent`](crate::words#iscontent), [`IsLive`](crate::words#islive), [`lends_value`](crate::words#lends_value-of-slotmap_basic-lends), [`live`](crate::words#live).
 "## };
     (slotmap_basic SlotMap insert) => { r##"
 # Proved
@@ -390,6 +426,8 @@ pub fn insert(&mut self, value: V) -> Result<K, InsertError<V>>
 
     ensures valid { MayGrow true self.old (IsErr result) self.new }
 ```
+
+Words: [`HasVacant`](crate::words#hasvacant), [`Inserts`](crate::words#inserts), [`MayGrow`](crate::words#maygrow), [`Refuses`](crate::words#refuses).
 "## };
     (slotmap_basic SlotMap insert_with_key) => { r##"
 # Proved
@@ -412,6 +450,8 @@ where
 
     ensures valid { MayGrow true self.old (IsErr result) self.new }
 ```
+
+Words: [`HasVacant`](crate::words#hasvacant), [`Inserts`](crate::words#inserts), [`MayGrow`](crate::words#maygrow), [`most`](crate::words#most), [`offer`](crate::words#offer), [`RefusesInsert`](crate::words#refusesinsert), [`used`](crate::words#used).
 "## };
     (slotmap_basic SlotMap into_iter) => { r##"
 # Proved
@@ -423,6 +463,8 @@ fn into_iter(self) -> IntoIter<K, V>
 
 ghost into_iter_gives = { λ m it. ListsByIndex m.live it };
 ```
+
+Words: [`ListsByIndex`](crate::words#listsbyindex), [`live`](crate::words#live).
 "## };
     (slotmap_basic SlotMap is_empty) => { r##"
 # Proved
@@ -434,6 +476,8 @@ pub fn is_empty(&self) -> bool
     ensures value { IsTrue result ↔ (map.len self.now.live ≡ 0) }
     ensures valid { IsContent true self.now }
 ```
+
+Words: [`IsContent`](crate::words#iscontent), [`live`](crate::words#live).
 "## };
     (slotmap_basic SlotMap iter) => { r##"
 # Proved
@@ -446,6 +490,8 @@ pub fn iter(&self) -> Iter<'_, K, V>
     ensures in_order { result ≡ map.entries self.now.live }
     ensures valid { IsContent true self.now }
 ```
+
+Words: [`IsContent`](crate::words#iscontent), [`IsListing`](crate::words#islisting), [`live`](crate::words#live).
 "## };
     (slotmap_basic SlotMap key_at) => { r##"
 # Proved
@@ -459,6 +505,8 @@ pub fn key_at(&self, index: u32) -> Option<K>
     ensures none { IfNone result ((other : KeyOf) → IsLive self.now other → other.index ≢ index) }
     ensures valid { IsContent true self.now }
 ```
+
+Words: [`index`](crate::words#index), [`IsContent`](crate::words#iscontent), [`IsLive`](crate::words#islive), [`Key`](crate::words#key).
 "## };
     (slotmap_basic SlotMap keys) => { r##"
 # Proved
@@ -471,6 +519,8 @@ pub fn keys(&self) -> Keys<'_, K, V>
     ensures in_order { result ≡ map.keys self.now.live }
     ensures valid { IsContent true self.now }
 ```
+
+Words: [`IsContent`](crate::words#iscontent), [`IsKeyListing`](crate::words#iskeylisting), [`live`](crate::words#live).
 "## };
     (slotmap_basic SlotMap keys_into) => { r##"
 # Proved
@@ -484,6 +534,8 @@ pub fn keys_into(&self, out: &mut Vec<K>) -> Result<(), OutOfMemory>
     ensures unchanged { OnErr result (out.new.items ≡ out.old.items) }
     ensures valid { IsContent true self.now }
 ```
+
+Words: [`IsContent`](crate::words#iscontent), [`live`](crate::words#live).
 "## };
     (slotmap_basic SlotMap len) => { r##"
 # Proved
@@ -495,6 +547,8 @@ pub fn len(&self) -> usize
     ensures value { result ≡ map.len self.now.live }
     ensures valid { IsContent true self.now }
 ```
+
+Words: [`IsContent`](crate::words#iscontent), [`live`](crate::words#live).
 "## };
     (slotmap_basic SlotMap new) => { r##"
 # Proved
@@ -508,6 +562,8 @@ pub fn new(alloc: Global) -> Result<Self, ReserveError>
     ensures err { IfErr result (λ error. error ≡ ReserveError.Memory) }
     ensures valid { IfOk result (IsContent true) }
 ```
+
+Words: [`IsContent`](crate::words#iscontent), [`IsNew`](crate::words#isnew), [`stack`](crate::words#stack).
 "## };
     (slotmap_basic SlotMap next_after) => { r##"
 # Proved
@@ -523,6 +579,8 @@ pub fn next_after(&self, key: Option<K>) -> Option<(K, &V)>
     ensures none { IfNone result ((other : KeyOf) → IsLive self.now other → other.index < index_after K.data_of key) }
     ensures valid { IsContent true self.now }
 ```
+
+Words: [`index`](crate::words#index), [`index_after`](crate::words#index_after), [`IsContent`](crate::words#iscontent), [`IsLive`](crate::words#islive), [`Key`](crate::words#key), [`live`](crate::words#live).
 "## };
     (slotmap_basic SlotMap reattach) => { r##"
 # Proved
@@ -537,6 +595,8 @@ pub fn reattach(&mut self, key: K, value: V) -> Result<(), ReattachError<V>>
     ensures unchanged { OnErr result (self.new ≡ self.old) }
     ensures valid { StaysValid true self.old self.new }
 ```
+
+Words: [`IsDetached`](crate::words#isdetached), [`Reattaches`](crate::words#reattaches), [`StaysValid`](crate::words#staysvalid).
 "## };
     (slotmap_basic SlotMap remove) => { r##"
 # Proved
@@ -551,6 +611,8 @@ pub fn remove(&mut self, key: K) -> Option<V>
     ensures live { self.new.live ≡ map.remove self.old.live (K.data_of key) }
     ensures valid { StaysValid true self.old self.new }
 ```
+
+Words: [`live`](crate::words#live), [`Removes`](crate::words#removes), [`StaysValid`](crate::words#staysvalid).
 "## };
     (slotmap_basic SlotMap replace) => { r##"
 # Proved
@@ -565,6 +627,8 @@ pub fn replace(&mut self, key: K, value: V) -> Result<V, V>
     ensures unchanged { OnErr result (self.new ≡ self.old) }
     ensures valid { StaysValid true self.old self.new }
 ```
+
+Words: [`IsLive`](crate::words#islive), [`live`](crate::words#live), [`StaysValid`](crate::words#staysvalid), [`with_value`](crate::words#with_value-of-slotmap_core-transition).
 "## };
     (slotmap_basic SlotMap replace_disjoint) => { r##"
 # Proved
@@ -585,6 +649,8 @@ pub fn replace_disjoint<const N: usize>(
     ensures unchanged { OnErr result (self.new ≡ self.old) }
     ensures valid { StaysValid true self.old self.new }
 ```
+
+Words: [`AreValuesOf`](crate::words#arevaluesof-of-slotmap_core-disjoint), [`CanReplace`](crate::words#canreplace-of-slotmap_core-disjoint), [`StaysValid`](crate::words#staysvalid), [`with_values`](crate::words#with_values-of-slotmap_core-disjoint).
 "## };
     (slotmap_basic SlotMap reserve) => { r##"
 # Proved
@@ -597,6 +663,8 @@ pub fn reserve(&mut self, additional: usize) -> Result<(), ReserveError>
     ensures err { IfErr result (RefusesCapacity (used self.old + additional)) }
     ensures reuses { additional ≤ map.len self.old.next → IsOk result }
 ```
+
+Words: [`MakesRoom`](crate::words#makesroom), [`next`](crate::words#next), [`RefusesCapacity`](crate::words#refusescapacity), [`used`](crate::words#used).
 "## };
     (slotmap_basic SlotMap retain) => { r##"
 # Proved
@@ -614,6 +682,8 @@ where
     ensures freed_order { FreesByIndex self.old self.new }
     ensures valid { StaysValid true self.old self.new }
 ```
+
+Words: [`CallableOnEach`](crate::words#callableoneach), [`FreesByIndex`](crate::words#freesbyindex), [`Leaves`](crate::words#leaves), [`live`](crate::words#live), [`RetainsBy`](crate::words#retainsby), [`StaysValid`](crate::words#staysvalid).
 "## };
     (slotmap_basic SlotMap to_slots) => { r##"
 # Proved
@@ -634,6 +704,8 @@ where
 
     ensures valid { IsContent true self.now }
 ```
+
+Words: [`ClonesEqual`](crate::words#clonesequal), [`IsCloneOf`](crate::words#iscloneof), [`IsContent`](crate::words#iscontent), [`Key`](crate::words#key), [`live`](crate::words#live), [`start_live`](crate::words#start_live), [`Writes`](crate::words#writes), [`WritesClones`](crate::words#writesclones).
 "## };
     (slotmap_basic SlotMap try_insert_with_key) => { r##"
 # Proved
@@ -656,6 +728,8 @@ where
 
     ensures valid { MayGrow true self.old (IsErr result) self.new }
 ```
+
+Words: [`Inserts`](crate::words#inserts), [`MayGrow`](crate::words#maygrow), [`most`](crate::words#most), [`next`](crate::words#next), [`offer`](crate::words#offer), [`RefusesWith`](crate::words#refuseswith), [`used`](crate::words#used).
 "## };
     (slotmap_basic SlotMap try_reserve) => { r##"
 # Proved
@@ -668,6 +742,8 @@ pub fn try_reserve(&mut self, additional: usize) -> Result<(), ReserveError>
     ensures err { IfErr result (RefusesCapacity (used self.old + additional)) }
     ensures reuses { additional ≤ map.len self.old.next → IsOk result }
 ```
+
+Words: [`MakesRoom`](crate::words#makesroom), [`next`](crate::words#next), [`RefusesCapacity`](crate::words#refusescapacity), [`used`](crate::words#used).
 "## };
     (slotmap_basic SlotMap values) => { r##"
 # Proved
@@ -680,6 +756,8 @@ pub fn values(&self) -> Values<'_, K, V>
     ensures in_order { result ≡ map.values self.now.live }
     ensures valid { IsContent true self.now }
 ```
+
+Words: [`IsContent`](crate::words#iscontent), [`IsValueListing`](crate::words#isvaluelisting), [`live`](crate::words#live).
 "## };
     (slotmap_basic SlotMap with_capacity) => { r##"
 # Proved
@@ -695,6 +773,8 @@ pub fn with_capacity(alloc: Global, capacity: usize) -> Result<Self, ReserveErro
     ensures err { IfErr result (RefusesCapacity capacity) }
     ensures valid { IfOk result (IsContent true) }
 ```
+
+Words: [`capacity`](crate::words#capacity-of-slotmap_core-content), [`IsContent`](crate::words#iscontent), [`IsNew`](crate::words#isnew), [`RefusesCapacity`](crate::words#refusescapacity), [`room`](crate::words#room-of-slotmap_core-content), [`stack`](crate::words#stack).
 "## };
     (slotmap_basic SlotMap with_capacity_and_key) => { r##"
 # Proved
@@ -710,6 +790,8 @@ pub fn with_capacity_and_key(alloc: Global, capacity: usize) -> Result<Self, Res
     ensures err { IfErr result (RefusesCapacity capacity) }
     ensures valid { IfOk result (IsContent true) }
 ```
+
+Words: [`capacity`](crate::words#capacity-of-slotmap_core-content), [`IsContent`](crate::words#iscontent), [`IsNew`](crate::words#isnew), [`RefusesCapacity`](crate::words#refusescapacity), [`room`](crate::words#room-of-slotmap_core-content), [`stack`](crate::words#stack).
 "## };
     (slotmap_basic SlotMap with_key) => { r##"
 # Proved
@@ -723,6 +805,8 @@ pub fn with_key(alloc: Global) -> Result<Self, ReserveError>
     ensures err { IfErr result (λ error. error ≡ ReserveError.Memory) }
     ensures valid { IfOk result (IsContent true) }
 ```
+
+Words: [`IsContent`](crate::words#iscontent), [`IsNew`](crate::words#isnew), [`stack`](crate::words#stack).
 "## };
     (slotmap_basic Values clone) => { r##"
 # Proved
@@ -784,6 +868,8 @@ pub fn as_mut_slices(&mut self) -> (&[K], &mut [V])
     ensures values { result.1.now ≡ self.old.values }
     ensures valid { IsDense self.old }
 ```
+
+Words: [`IsDense`](crate::words#isdense), [`keys`](crate::words#keys-of-slotmap_dense-dense), [`lends_iter`](crate::words#lends_iter), [`values`](crate::words#values).
 "## };
     (slotmap_dense DenseSlotMap as_slices) => { r##"
 # Proved
@@ -796,6 +882,8 @@ pub fn as_slices(&self) -> (&[K], &[V])
     ensures values { result.1.now ≡ self.now.values }
     ensures valid { IsDense self.now }
 ```
+
+Words: [`IsDense`](crate::words#isdense), [`keys`](crate::words#keys-of-slotmap_dense-dense), [`values`](crate::words#values).
 "## };
     (slotmap_dense DenseSlotMap can_replace) => { r##"
 # Proved
@@ -807,6 +895,8 @@ pub fn can_replace(&self, keys: &[K]) -> bool
     ensures which { IsTrue result ↔ CanReplace value_of self.now (map_list K.data_of keys.now) }
     ensures valid { IsDense self.now }
 ```
+
+Words: [`CanReplace`](crate::words#canreplace-of-slotmap_core-several), [`IsDense`](crate::words#isdense), [`value_of`](crate::words#value_of-of-slotmap_dense-dense).
 "## };
     (slotmap_dense DenseSlotMap capacity) => { r##"
 # Proved
@@ -818,6 +908,8 @@ pub fn capacity(&self) -> usize
     ensures value { result ≡ self.now.content.capacity }
     ensures valid { IsDense self.now }
 ```
+
+Words: [`capacity`](crate::words#capacity-of-slotmap_core-content), [`content`](crate::words#content-of-slotmap_dense-dense), [`IsDense`](crate::words#isdense).
 "## };
     (slotmap_dense DenseSlotMap clear) => { r##"
 # Proved
@@ -832,6 +924,8 @@ pub fn clear(&mut self)
     ensures freed_order { FreesFromBack self.old self.new }
     ensures valid { StaysDense self.old self.new }
 ```
+
+Words: [`content`](crate::words#content-of-slotmap_dense-dense), [`FreesFromBack`](crate::words#freesfromback), [`IsEmpty`](crate::words#isempty), [`Leaves`](crate::words#leaves), [`live`](crate::words#live), [`StaysDense`](crate::words#staysdense).
 "## };
     (slotmap_dense DenseSlotMap clone) => { r##"
 # Proved
@@ -849,6 +943,8 @@ pub fn clone(&self) -> Result<Self, AllocError>
 
     ensures valid { IfOk result IsDense }
 ```
+
+Words: [`ClonesEqual`](crate::words#clonesequal), [`ClonesInOrder`](crate::words#clonesinorder), [`content`](crate::words#content-of-slotmap_dense-dense), [`IsCloneBy`](crate::words#iscloneby), [`IsCopy`](crate::words#iscopy), [`IsDense`](crate::words#isdense), [`SameOrder`](crate::words#sameorder).
 "## };
     (slotmap_dense DenseSlotMap clone_from) => { r##"
 # Proved
@@ -869,6 +965,8 @@ where
     ensures unchanged { OnErr result (self.new ≡ self.old) }
     ensures valid { OnOk result (IsDense self.new) }
 ```
+
+Words: [`ClonesEqual`](crate::words#clonesequal), [`ClonesInOrder`](crate::words#clonesinorder), [`content`](crate::words#content-of-slotmap_dense-dense), [`IsCloneBy`](crate::words#iscloneby), [`IsCopy`](crate::words#iscopy), [`IsDense`](crate::words#isdense), [`SameOrder`](crate::words#sameorder).
 "## };
     (slotmap_dense DenseSlotMap contains_key) => { r##"
 # Proved
@@ -880,6 +978,8 @@ pub fn contains_key(&self, key: K) -> bool
     ensures value { result ≡ map.contains_key self.now.content.live (K.data_of key) }
     ensures valid { IsDense self.now }
 ```
+
+Words: [`content`](crate::words#content-of-slotmap_dense-dense), [`IsDense`](crate::words#isdense), [`live`](crate::words#live).
 "## };
     (slotmap_dense DenseSlotMap detach) => { r##"
 # Proved
@@ -895,6 +995,8 @@ pub fn detach(&mut self, key: K) -> Option<V>
     ensures unchanged { IfNone result (self.new ≡ self.old) }
     ensures valid { StaysDense self.old self.new }
 ```
+
+Words: [`ClosesGap`](crate::words#closesgap), [`content`](crate::words#content-of-slotmap_dense-dense), [`Detaches`](crate::words#detaches), [`live`](crate::words#live), [`StaysDense`](crate::words#staysdense).
 "## };
     (slotmap_dense DenseSlotMap drain) => { r##"
 # Proved
@@ -911,6 +1013,8 @@ pub fn drain(&mut self) -> Drain<'_, K, V>
     ensures in_order { Along (DenseDrainSteps K.data_of) (DrainsFromBack K.data_of) result }
     ensures valid { IsDense self.old }
 ```
+
+Words: [`Along`](crate::words#along), [`dense_drain_live`](crate::words#dense_drain_live), [`dense_drain_loan`](crate::words#dense_drain_loan), [`DenseDrainSteps`](crate::words#densedrainsteps), [`DrainsFromBack`](crate::words#drainsfromback), [`EmptiesDense`](crate::words#emptiesdense), [`IsDense`](crate::words#isdense), [`KeepsAlong`](crate::words#keepsalong), [`KeepsLoan`](crate::words#keepsloan), [`ListsAlong`](crate::words#listsalong).
 "## };
     (slotmap_dense DenseSlotMap drain_into) => { r##"
 # Proved
@@ -929,6 +1033,8 @@ pub fn drain_into(&mut self, out: &mut Vec<(K, V)>) -> Result<(), OutOfMemory>
     ensures unchanged { OnErr result ((self.new ≡ self.old) × (out.new.items ≡ out.old.items)) }
     ensures valid { StaysDense self.old self.new }
 ```
+
+Words: [`content`](crate::words#content-of-slotmap_dense-dense), [`FreesFromBack`](crate::words#freesfromback), [`IsListing`](crate::words#islisting), [`keys`](crate::words#keys-of-slotmap_dense-dense), [`Leaves`](crate::words#leaves), [`live`](crate::words#live), [`StaysDense`](crate::words#staysdense), [`values`](crate::words#values).
 "## };
     (slotmap_dense DenseSlotMap from_slots) => { r##"
 # Proved
@@ -944,6 +1050,8 @@ pub fn from_slots(alloc: Global, list: Vec<SlotRecord<V>>) -> Result<Self, Slots
     ensures err { IfErr result (RefusesStart list.items list_limit) }
     ensures valid { IfOk result IsDense }
 ```
+
+Words: [`Accepts`](crate::words#accepts), [`content`](crate::words#content-of-slotmap_dense-dense), [`IsDense`](crate::words#isdense), [`list_limit`](crate::words#list_limit), [`live`](crate::words#live), [`ReadsAs`](crate::words#readsas), [`RefusesStart`](crate::words#refusesstart), [`stack`](crate::words#stack), [`start_stack`](crate::words#start_stack).
 "## };
     (slotmap_dense DenseSlotMap get) => { r##"
 # Proved
@@ -955,6 +1063,8 @@ pub fn get(&self, key: K) -> Option<&V>
     ensures value { option_copied result ≡ map.get self.now.content.live (K.data_of key) }
     ensures valid { IsDense self.now }
 ```
+
+Words: [`content`](crate::words#content-of-slotmap_dense-dense), [`IsDense`](crate::words#isdense), [`live`](crate::words#live).
 "## };
     (slotmap_dense DenseSlotMap get_disjoint_mut) => { r##"
 # Proved
@@ -967,6 +1077,8 @@ pub fn get_disjoint_mut(&mut self, keys: [K; 2]) -> Option<(&mut V, &mut V)>
     ensures value { IfSome result (λ pair. AreValuesOf value_of self.old (map_list K.data_of keys) (pair.0.now ∷ pair.1.now ∷ [])) }
     ensures valid { IsDense self.old }
 ```
+
+Words: [`AreValuesOf`](crate::words#arevaluesof-of-slotmap_core-several), [`CanReplace`](crate::words#canreplace-of-slotmap_core-several), [`IsDense`](crate::words#isdense), [`value_of`](crate::words#value_of-of-slotmap_dense-dense).
 "## };
     (slotmap_dense DenseSlotMap get_disjoint_unchecked_mut) => { r##"
 # Proved
@@ -979,6 +1091,8 @@ pub fn get_disjoint_unchecked_mut(&mut self, keys: [K; 2]) -> (&mut V, &mut V)
     ensures value { AreValuesOf value_of self.old (map_list K.data_of keys) (result.0.now ∷ result.1.now ∷ []) }
     ensures valid { IsDense self.old }
 ```
+
+Words: [`AreValuesOf`](crate::words#arevaluesof-of-slotmap_core-several), [`CanReplace`](crate::words#canreplace-of-slotmap_core-several), [`IsDense`](crate::words#isdense), [`value_of`](crate::words#value_of-of-slotmap_dense-dense).
 "## };
     (slotmap_dense DenseSlotMap get_mut) => { r##"
 # Proved
@@ -991,6 +1105,8 @@ pub fn get_mut(&mut self, key: K) -> Option<&mut V>
     ensures value { option_copied_mut result ≡ map.get self.old.content.live (K.data_of key) }
     ensures valid { IsDense self.old }
 ```
+
+Words: [`content`](crate::words#content-of-slotmap_dense-dense), [`IsDense`](crate::words#isdense), [`lends_get`](crate::words#lends_get-of-slotmap_dense-lends), [`live`](crate::words#live).
 "## };
     (slotmap_dense DenseSlotMap get_unchecked) => { r##"
 # Proved
@@ -1003,6 +1119,8 @@ pub fn get_unchecked(&self, key: K) -> &V
     ensures value { map.get self.now.content.live (K.data_of key) ≡ Some result.now }
     ensures valid { IsDense self.now }
 ```
+
+Words: [`content`](crate::words#content-of-slotmap_dense-dense), [`IsDense`](crate::words#isdense), [`IsLive`](crate::words#islive), [`live`](crate::words#live).
 "## };
     (slotmap_dense DenseSlotMap get_unchecked_mut) => { r##"
 # Proved
@@ -1016,6 +1134,8 @@ pub fn get_unchecked_mut(&mut self, key: K) -> &mut V
     ensures value { map.get self.old.content.live (K.data_of key) ≡ Some result.now }
     ensures valid { IsDense self.old }
 ```
+
+Words: [`content`](crate::words#content-of-slotmap_dense-dense), [`IsDense`](crate::words#isdense), [`IsLive`](crate::words#islive), [`lends_value`](crate::words#lends_value-of-slotmap_dense-lends), [`live`](crate::words#live).
 "## };
     (slotmap_dense DenseSlotMap index) => { r##"
 # Proved
@@ -1029,6 +1149,8 @@ ghost can_index = { λ m key. IsLive m.content (K.data_of key) };
 
 ghost index_gives = { λ m key value. map.get m.content.live (K.data_of key) ≡ Some value };
 ```
+
+Words: [`content`](crate::words#content-of-slotmap_dense-dense), [`IsLive`](crate::words#islive), [`live`](crate::words#live).
 "## };
     (slotmap_dense DenseSlotMap index_mut) => { r##"
 # Proved
@@ -1042,6 +1164,8 @@ fn index_mut(&mut self, key: K) -> &mut V
     ensures value { map.get self.old.content.live (K.data_of key) ≡ Some result.now }
     ensures valid { IsDense self.old }
 ```
+
+Words: [`content`](crate::words#content-of-slotmap_dense-dense), [`IsDense`](crate::words#isdense), [`IsLive`](crate::words#islive), [`lends_value`](crate::words#lends_value-of-slotmap_dense-lends), [`live`](crate::words#live).
 "## };
     (slotmap_dense DenseSlotMap insert) => { r##"
 # Proved
@@ -1056,6 +1180,8 @@ pub fn insert(&mut self, value: V) -> Result<K, InsertError<V>>
 
     ensures valid { GrowsDense self.old (IsErr result) self.new }
 ```
+
+Words: [`Appends`](crate::words#appends), [`content`](crate::words#content-of-slotmap_dense-dense), [`GrowsDense`](crate::words#growsdense), [`Inserts`](crate::words#inserts), [`Refuses`](crate::words#refuses).
 "## };
     (slotmap_dense DenseSlotMap insert_with_key) => { r##"
 # Proved
@@ -1074,6 +1200,8 @@ where
 
     ensures valid { GrowsDense self.old (IsErr result) self.new }
 ```
+
+Words: [`Appends`](crate::words#appends), [`content`](crate::words#content-of-slotmap_dense-dense), [`GrowsDense`](crate::words#growsdense), [`Inserts`](crate::words#inserts), [`most`](crate::words#most), [`offer`](crate::words#offer), [`RefusesInsert`](crate::words#refusesinsert), [`used`](crate::words#used).
 "## };
     (slotmap_dense DenseSlotMap into_iter) => { r##"
 # Proved
@@ -1085,6 +1213,8 @@ fn into_iter(self) -> IntoIter<K, V>
 
 ghost into_iter_gives = { λ m it. ListsPairs m it };
 ```
+
+Words: [`ListsPairs`](crate::words#listspairs).
 "## };
     (slotmap_dense DenseSlotMap is_empty) => { r##"
 # Proved
@@ -1096,6 +1226,8 @@ pub fn is_empty(&self) -> bool
     ensures value { IsTrue result ↔ (map.len self.now.content.live ≡ 0) }
     ensures valid { IsDense self.now }
 ```
+
+Words: [`content`](crate::words#content-of-slotmap_dense-dense), [`IsDense`](crate::words#isdense), [`live`](crate::words#live).
 "## };
     (slotmap_dense DenseSlotMap iter) => { r##"
 # Proved
@@ -1108,6 +1240,8 @@ pub fn iter(&self) -> Iter<'_, K, V>
     ensures in_order { result ≡ zip self.now.keys self.now.values }
     ensures valid { IsDense self.now }
 ```
+
+Words: [`content`](crate::words#content-of-slotmap_dense-dense), [`IsDense`](crate::words#isdense), [`IsListing`](crate::words#islisting), [`keys`](crate::words#keys-of-slotmap_dense-dense), [`live`](crate::words#live), [`values`](crate::words#values).
 "## };
     (slotmap_dense DenseSlotMap iter_mut) => { r##"
 # Proved
@@ -1121,6 +1255,8 @@ pub fn iter_mut(&mut self) -> IterMut<'_, K, V>
     ensures ready { IterMutCanStep result }
     ensures valid { IsDense self.old }
 ```
+
+Words: [`IsDense`](crate::words#isdense), [`iter_mut_name`](crate::words#iter_mut_name), [`iter_mut_rest`](crate::words#iter_mut_rest), [`IterMutCanStep`](crate::words#itermutcanstep), [`keys`](crate::words#keys-of-slotmap_dense-dense), [`lends_iter`](crate::words#lends_iter), [`values`](crate::words#values).
 "## };
     (slotmap_dense DenseSlotMap keys) => { r##"
 # Proved
@@ -1133,6 +1269,8 @@ pub fn keys(&self) -> Keys<'_, K, V>
     ensures in_order { result ≡ self.now.keys }
     ensures valid { IsDense self.now }
 ```
+
+Words: [`content`](crate::words#content-of-slotmap_dense-dense), [`IsDense`](crate::words#isdense), [`IsKeyListing`](crate::words#iskeylisting), [`keys`](crate::words#keys-of-slotmap_dense-dense), [`live`](crate::words#live).
 "## };
     (slotmap_dense DenseSlotMap keys_as_slice) => { r##"
 # Proved
@@ -1144,6 +1282,8 @@ pub fn keys_as_slice(&self) -> &[K]
     ensures keys { list_map K.data_of result.now ≡ self.now.keys }
     ensures valid { IsDense self.now }
 ```
+
+Words: [`IsDense`](crate::words#isdense), [`keys`](crate::words#keys-of-slotmap_dense-dense).
 "## };
     (slotmap_dense DenseSlotMap keys_into) => { r##"
 # Proved
@@ -1157,6 +1297,8 @@ pub fn keys_into(&self, out: &mut Vec<K>) -> Result<(), OutOfMemory>
     ensures unchanged { OnErr result (out.new.items ≡ out.old.items) }
     ensures valid { IsDense self.now }
 ```
+
+Words: [`content`](crate::words#content-of-slotmap_dense-dense), [`IsDense`](crate::words#isdense), [`IsKeyListing`](crate::words#iskeylisting), [`keys`](crate::words#keys-of-slotmap_dense-dense), [`live`](crate::words#live).
 "## };
     (slotmap_dense DenseSlotMap len) => { r##"
 # Proved
@@ -1168,6 +1310,8 @@ pub fn len(&self) -> usize
     ensures value { result ≡ map.len self.now.content.live }
     ensures valid { IsDense self.now }
 ```
+
+Words: [`content`](crate::words#content-of-slotmap_dense-dense), [`IsDense`](crate::words#isdense), [`live`](crate::words#live).
 "## };
     (slotmap_dense DenseSlotMap new) => { r##"
 # Proved
@@ -1182,6 +1326,8 @@ pub fn new(alloc: Global) -> Result<Self, ReserveError>
     ensures err { IfErr result (λ error. error ≡ ReserveError.Memory) }
     ensures valid { IfOk result IsDense }
 ```
+
+Words: [`content`](crate::words#content-of-slotmap_dense-dense), [`IsDense`](crate::words#isdense), [`IsEmpty`](crate::words#isempty), [`IsNew`](crate::words#isnew), [`stack`](crate::words#stack).
 "## };
     (slotmap_dense DenseSlotMap reattach) => { r##"
 # Proved
@@ -1196,6 +1342,8 @@ pub fn reattach(&mut self, key: K, value: V) -> Result<(), ReattachError<V>>
     ensures unchanged { OnErr result (Keeps self.old.content self.new.content) }
     ensures valid { GrowsDense self.old (IsErr result) self.new }
 ```
+
+Words: [`Appends`](crate::words#appends), [`content`](crate::words#content-of-slotmap_dense-dense), [`GrowsDense`](crate::words#growsdense), [`Keeps`](crate::words#keeps), [`Reattaches`](crate::words#reattaches), [`RefusesReattach`](crate::words#refusesreattach).
 "## };
     (slotmap_dense DenseSlotMap remove) => { r##"
 # Proved
@@ -1211,6 +1359,8 @@ pub fn remove(&mut self, key: K) -> Option<V>
     ensures unchanged { IfNone result (self.new ≡ self.old) }
     ensures valid { StaysDense self.old self.new }
 ```
+
+Words: [`ClosesGap`](crate::words#closesgap), [`content`](crate::words#content-of-slotmap_dense-dense), [`live`](crate::words#live), [`Removes`](crate::words#removes), [`StaysDense`](crate::words#staysdense).
 "## };
     (slotmap_dense DenseSlotMap replace) => { r##"
 # Proved
@@ -1225,6 +1375,8 @@ pub fn replace(&mut self, key: K, value: V) -> Result<V, V>
     ensures unchanged { OnErr result (self.new ≡ self.old) }
     ensures valid { StaysDense self.old self.new }
 ```
+
+Words: [`content`](crate::words#content-of-slotmap_dense-dense), [`IsLive`](crate::words#islive), [`live`](crate::words#live), [`StaysDense`](crate::words#staysdense), [`with_value_of`](crate::words#with_value_of).
 "## };
     (slotmap_dense DenseSlotMap replace_disjoint) => { r##"
 # Proved
@@ -1246,6 +1398,8 @@ pub fn replace_disjoint<const N: usize>(
 
     ensures valid { StaysDense self.old self.new }
 ```
+
+Words: [`AreValuesOf`](crate::words#arevaluesof-of-slotmap_core-several), [`CanReplace`](crate::words#canreplace-of-slotmap_core-several), [`StaysDense`](crate::words#staysdense), [`value_of`](crate::words#value_of-of-slotmap_dense-dense), [`with_value_of`](crate::words#with_value_of), [`with_values`](crate::words#with_values-of-slotmap_core-several).
 "## };
     (slotmap_dense DenseSlotMap reserve) => { r##"
 # Proved
@@ -1257,6 +1411,8 @@ pub fn reserve(&mut self, additional: usize) -> Result<(), ReserveError>
     ensures makes_room { MakesDenseRoom self.old additional (IsOk result) self.new }
     ensures err { IfErr result (RefusesCapacity (used self.old.content + additional)) }
 ```
+
+Words: [`content`](crate::words#content-of-slotmap_dense-dense), [`MakesDenseRoom`](crate::words#makesdenseroom), [`RefusesCapacity`](crate::words#refusescapacity), [`used`](crate::words#used).
 "## };
     (slotmap_dense DenseSlotMap retain) => { r##"
 # Proved
@@ -1274,6 +1430,8 @@ where
     ensures leaves { Leaves self.old.content self.new.content }
     ensures valid { StaysDense self.old self.new }
 ```
+
+Words: [`CallableOnEach`](crate::words#callableoneach), [`content`](crate::words#content-of-slotmap_dense-dense), [`Leaves`](crate::words#leaves), [`live`](crate::words#live), [`RetainsBy`](crate::words#retainsby), [`RetainsPacked`](crate::words#retainspacked), [`StaysDense`](crate::words#staysdense).
 "## };
     (slotmap_dense DenseSlotMap to_slots) => { r##"
 # Proved
@@ -1294,6 +1452,8 @@ where
 
     ensures valid { IsDense self.now }
 ```
+
+Words: [`ClonesEqual`](crate::words#clonesequal), [`content`](crate::words#content-of-slotmap_dense-dense), [`IsCloneOf`](crate::words#iscloneof), [`IsDense`](crate::words#isdense), [`Key`](crate::words#key), [`live`](crate::words#live), [`start_live`](crate::words#start_live), [`Writes`](crate::words#writes), [`WritesClones`](crate::words#writesclones).
 "## };
     (slotmap_dense DenseSlotMap try_insert_with_key) => { r##"
 # Proved
@@ -1312,6 +1472,8 @@ where
 
     ensures valid { GrowsDense self.old (IsErr result) self.new }
 ```
+
+Words: [`Appends`](crate::words#appends), [`content`](crate::words#content-of-slotmap_dense-dense), [`GrowsDense`](crate::words#growsdense), [`Inserts`](crate::words#inserts), [`most`](crate::words#most), [`offer`](crate::words#offer), [`RefusesWith`](crate::words#refuseswith), [`used`](crate::words#used).
 "## };
     (slotmap_dense DenseSlotMap try_reserve) => { r##"
 # Proved
@@ -1323,6 +1485,8 @@ pub fn try_reserve(&mut self, additional: usize) -> Result<(), ReserveError>
     ensures makes_room { MakesDenseRoom self.old additional (IsOk result) self.new }
     ensures err { IfErr result (RefusesCapacity (used self.old.content + additional)) }
 ```
+
+Words: [`content`](crate::words#content-of-slotmap_dense-dense), [`MakesDenseRoom`](crate::words#makesdenseroom), [`RefusesCapacity`](crate::words#refusescapacity), [`used`](crate::words#used).
 "## };
     (slotmap_dense DenseSlotMap values) => { r##"
 # Proved
@@ -1335,6 +1499,8 @@ pub fn values(&self) -> Values<'_, K, V>
     ensures in_order { result ≡ self.now.values }
     ensures valid { IsDense self.now }
 ```
+
+Words: [`content`](crate::words#content-of-slotmap_dense-dense), [`IsDense`](crate::words#isdense), [`IsValueListing`](crate::words#isvaluelisting), [`live`](crate::words#live), [`values`](crate::words#values).
 "## };
     (slotmap_dense DenseSlotMap values_as_mut_slice) => { r##"
 # Proved
@@ -1347,6 +1513,8 @@ pub fn values_as_mut_slice(&mut self) -> &mut [V]
     ensures value { result.now ≡ self.old.values }
     ensures valid { IsDense self.old }
 ```
+
+Words: [`IsDense`](crate::words#isdense), [`lends_values`](crate::words#lends_values), [`values`](crate::words#values).
 "## };
     (slotmap_dense DenseSlotMap values_as_slice) => { r##"
 # Proved
@@ -1358,6 +1526,8 @@ pub fn values_as_slice(&self) -> &[V]
     ensures values { result.now ≡ self.now.values }
     ensures valid { IsDense self.now }
 ```
+
+Words: [`IsDense`](crate::words#isdense), [`values`](crate::words#values).
 "## };
     (slotmap_dense DenseSlotMap values_mut) => { r##"
 # Proved
@@ -1371,6 +1541,8 @@ pub fn values_mut(&mut self) -> ValuesMut<'_, K, V>
     ensures runs { YieldsMutRefsInOrder (values_mut_steps {K = K} {V = V}) values_mut_rest }
     ensures valid { IsDense self.old }
 ```
+
+Words: [`IsDense`](crate::words#isdense), [`lends_iter`](crate::words#lends_iter), [`values`](crate::words#values), [`values_mut_name`](crate::words#values_mut_name), [`values_mut_rest`](crate::words#values_mut_rest), [`values_mut_steps`](crate::words#values_mut_steps).
 "## };
     (slotmap_dense DenseSlotMap with_capacity) => { r##"
 # Proved
@@ -1387,6 +1559,8 @@ pub fn with_capacity(alloc: Global, capacity: usize) -> Result<Self, ReserveErro
     ensures err { IfErr result (RefusesCapacity capacity) }
     ensures valid { IfOk result IsDense }
 ```
+
+Words: [`capacity`](crate::words#capacity-of-slotmap_core-content), [`content`](crate::words#content-of-slotmap_dense-dense), [`IsDense`](crate::words#isdense), [`IsEmpty`](crate::words#isempty), [`IsNew`](crate::words#isnew), [`RefusesCapacity`](crate::words#refusescapacity), [`room`](crate::words#room-of-slotmap_core-content), [`stack`](crate::words#stack).
 "## };
     (slotmap_dense DenseSlotMap with_capacity_and_key) => { r##"
 # Proved
@@ -1403,6 +1577,8 @@ pub fn with_capacity_and_key(alloc: Global, capacity: usize) -> Result<Self, Res
     ensures err { IfErr result (RefusesCapacity capacity) }
     ensures valid { IfOk result IsDense }
 ```
+
+Words: [`capacity`](crate::words#capacity-of-slotmap_core-content), [`content`](crate::words#content-of-slotmap_dense-dense), [`IsDense`](crate::words#isdense), [`IsEmpty`](crate::words#isempty), [`IsNew`](crate::words#isnew), [`RefusesCapacity`](crate::words#refusescapacity), [`room`](crate::words#room-of-slotmap_core-content), [`stack`](crate::words#stack).
 "## };
     (slotmap_dense DenseSlotMap with_key) => { r##"
 # Proved
@@ -1417,6 +1593,8 @@ pub fn with_key(alloc: Global) -> Result<Self, ReserveError>
     ensures err { IfErr result (λ error. error ≡ ReserveError.Memory) }
     ensures valid { IfOk result IsDense }
 ```
+
+Words: [`content`](crate::words#content-of-slotmap_dense-dense), [`IsDense`](crate::words#isdense), [`IsEmpty`](crate::words#isempty), [`IsNew`](crate::words#isnew), [`stack`](crate::words#stack).
 "## };
     (slotmap_dense Drain next) => { r##"
 # Proved
@@ -1430,6 +1608,8 @@ ghost next_gives = { DenseDrainSteps K.data_of };
 
 ghost remaining = { drain_count dense_drain_live };
 ```
+
+Words: [`dense_drain_live`](crate::words#dense_drain_live), [`DenseDrainSteps`](crate::words#densedrainsteps), [`drain_count`](crate::words#drain_count-of-slotmap_core-draining).
 "## };
     (slotmap_dense Drain size_hint) => { r##"
 # Proved
@@ -1442,6 +1622,8 @@ fn size_hint(&self) -> (usize, Option<usize>)
     ensures upper { IfSome result.1 (UpTo (drain_count dense_drain_live self.now)) }
     ensures exact { result ≡ (size (drain_count dense_drain_live self.now), Some (size (drain_count dense_drain_live self.now))) }
 ```
+
+Words: [`dense_drain_live`](crate::words#dense_drain_live), [`drain_count`](crate::words#drain_count-of-slotmap_core-draining).
 "## };
     (slotmap_dense IntoIter clone) => { r##"
 # Proved
@@ -1453,6 +1635,8 @@ pub fn clone(&self) -> Result<Self, AllocError>
     ensures clones { IfOk result (AreClones V.is_clone self.now) }
     ensures copies_if_clones_equal { IfOk result (λ copy. ClonesEqual V.is_clone → copy ≡ self.now) }
 ```
+
+Words: [`AreClones`](crate::words#areclones), [`ClonesEqual`](crate::words#clonesequal).
 "## };
     (slotmap_dense IntoIter len) => { r##"
 # Proved
@@ -1546,6 +1730,8 @@ What is proved of the call that this one makes:
 pub fn len(&self) -> usize
     ensures { result ≡ length (iter_mut_rest K.data_of self.now) }
 ```
+
+Words: [`iter_mut_rest`](crate::words#iter_mut_rest).
 "## };
     (slotmap_dense IterMut next) => { r##"
 # Proved
@@ -1561,6 +1747,8 @@ ghost next_gives = { iter_mut_steps K.data_of };
 
 ghost remaining = { λ s. at_most (length (iter_mut_rest K.data_of s)) };
 ```
+
+Words: [`iter_mut_rest`](crate::words#iter_mut_rest), [`iter_mut_steps`](crate::words#iter_mut_steps), [`IterMutCanStep`](crate::words#itermutcanstep).
 "## };
     (slotmap_dense IterMut size_hint) => { r##"
 # Proved
@@ -1573,6 +1761,8 @@ fn size_hint(&self) -> (usize, Option<usize>)
     ensures upper { IfSome result.1 (UpTo (at_most (length (iter_mut_rest K.data_of self.now)))) }
     ensures exact { result ≡ (length (iter_mut_rest K.data_of self.now), Some (length (iter_mut_rest K.data_of self.now))) }
 ```
+
+Words: [`iter_mut_rest`](crate::words#iter_mut_rest).
 "## };
     (slotmap_dense Keys clone) => { r##"
 # Proved
@@ -1679,6 +1869,8 @@ What is proved of the call that this one makes:
 pub fn len(&self) -> usize
     ensures { result ≡ length (values_mut_rest self.now) }
 ```
+
+Words: [`values_mut_rest`](crate::words#values_mut_rest).
 "## };
     (slotmap_dense ValuesMut next) => { r##"
 # Proved
@@ -1692,6 +1884,8 @@ ghost next_gives = { values_mut_steps };
 
 ghost remaining = { λ s. at_most (length (values_mut_rest s)) };
 ```
+
+Words: [`values_mut_rest`](crate::words#values_mut_rest), [`values_mut_steps`](crate::words#values_mut_steps).
 "## };
     (slotmap_dense ValuesMut size_hint) => { r##"
 # Proved
@@ -1704,6 +1898,8 @@ fn size_hint(&self) -> (usize, Option<usize>)
     ensures upper { IfSome result.1 (UpTo (at_most (length (values_mut_rest self.now)))) }
     ensures exact { result ≡ (length (values_mut_rest self.now), Some (length (values_mut_rest self.now))) }
 ```
+
+Words: [`values_mut_rest`](crate::words#values_mut_rest).
 "## };
     (slotmap_hop Drain next) => { r##"
 # Proved
@@ -1719,6 +1915,8 @@ ghost next_gives = { HopDrainSteps K.data_of };
 
 ghost remaining = { drain_count hop_drain_live };
 ```
+
+Words: [`drain_count`](crate::words#drain_count-of-slotmap_core-draining), [`hop_drain_live`](crate::words#hop_drain_live), [`HopDrainCanStep`](crate::words#hopdraincanstep), [`HopDrainSteps`](crate::words#hopdrainsteps).
 "## };
     (slotmap_hop Drain size_hint) => { r##"
 # Proved
@@ -1731,6 +1929,8 @@ fn size_hint(&self) -> (usize, Option<usize>)
     ensures upper { IfSome result.1 (UpTo (drain_count hop_drain_live self.now)) }
     ensures exact { result ≡ (size (drain_count hop_drain_live self.now), Some (size (drain_count hop_drain_live self.now))) }
 ```
+
+Words: [`drain_count`](crate::words#drain_count-of-slotmap_core-draining), [`hop_drain_live`](crate::words#hop_drain_live).
 "## };
     (slotmap_hop HopSlotMap capacity) => { r##"
 # Proved
@@ -1742,6 +1942,8 @@ pub fn capacity(&self) -> usize
     ensures value { result ≡ self.now.content.capacity }
     ensures valid { IsHopContent self.now }
 ```
+
+Words: [`capacity`](crate::words#capacity-of-slotmap_core-content), [`content`](crate::words#content-of-slotmap_hop-hopcontent), [`IsHopContent`](crate::words#ishopcontent).
 "## };
     (slotmap_hop HopSlotMap clear) => { r##"
 # Proved
@@ -1755,6 +1957,8 @@ pub fn clear(&mut self)
     ensures blocks { self.new.blocks ≡ blocks_without_all self.old (map.keys self.old.content.live) }
     ensures valid { StaysHop self.old self.new }
 ```
+
+Words: [`blocks`](crate::words#blocks-of-slotmap_hop-hopcontent), [`blocks_without_all`](crate::words#blocks_without_all), [`content`](crate::words#content-of-slotmap_hop-hopcontent), [`Leaves`](crate::words#leaves), [`live`](crate::words#live), [`StaysHop`](crate::words#stayshop).
 "## };
     (slotmap_hop HopSlotMap clone) => { r##"
 # Proved
@@ -1772,6 +1976,8 @@ pub fn clone(&self) -> Result<Self, AllocError>
 
     ensures valid { IfOk result IsHopContent }
 ```
+
+Words: [`blocks`](crate::words#blocks-of-slotmap_hop-hopcontent), [`ClonesEqual`](crate::words#clonesequal), [`content`](crate::words#content-of-slotmap_hop-hopcontent), [`IsCloneBy`](crate::words#iscloneby), [`IsCopy`](crate::words#iscopy), [`IsHopContent`](crate::words#ishopcontent).
 "## };
     (slotmap_hop HopSlotMap clone_from) => { r##"
 # Proved
@@ -1792,6 +1998,8 @@ where
     ensures unchanged { OnErr result (self.new ≡ self.old) }
     ensures valid { OnOk result (IsHopContent self.new) }
 ```
+
+Words: [`blocks`](crate::words#blocks-of-slotmap_hop-hopcontent), [`ClonesEqual`](crate::words#clonesequal), [`content`](crate::words#content-of-slotmap_hop-hopcontent), [`IsCloneBy`](crate::words#iscloneby), [`IsCopy`](crate::words#iscopy), [`IsHopContent`](crate::words#ishopcontent).
 "## };
     (slotmap_hop HopSlotMap contains_key) => { r##"
 # Proved
@@ -1803,6 +2011,8 @@ pub fn contains_key(&self, key: K) -> bool
     ensures value { result ≡ map.contains_key self.now.content.live (K.data_of key) }
     ensures valid { IsHopContent self.now }
 ```
+
+Words: [`content`](crate::words#content-of-slotmap_hop-hopcontent), [`IsHopContent`](crate::words#ishopcontent), [`live`](crate::words#live).
 "## };
     (slotmap_hop HopSlotMap drain) => { r##"
 # Proved
@@ -1822,6 +2032,8 @@ pub fn drain(&mut self) -> Drain<'_, K, V>
 
     ensures valid { IsHopContent self.old }
 ```
+
+Words: [`EmptiesMap`](crate::words#emptiesmap), [`hop_drain_live`](crate::words#hop_drain_live), [`hop_drain_loan`](crate::words#hop_drain_loan), [`HopDrainCanStep`](crate::words#hopdraincanstep), [`HopDrainSteps`](crate::words#hopdrainsteps), [`InOrderAlong`](crate::words#inorderalong), [`IsHopContent`](crate::words#ishopcontent), [`KeepsAlong`](crate::words#keepsalong), [`KeepsLoan`](crate::words#keepsloan), [`ListsAlong`](crate::words#listsalong).
 "## };
     (slotmap_hop HopSlotMap drain_into) => { r##"
 # Proved
@@ -1839,6 +2051,8 @@ pub fn drain_into(&mut self, out: &mut Vec<(K, V)>) -> Result<(), OutOfMemory>
     ensures unchanged { OnErr result ((self.new ≡ self.old) × (out.new.items ≡ out.old.items)) }
     ensures valid { StaysHop self.old self.new }
 ```
+
+Words: [`blocks`](crate::words#blocks-of-slotmap_hop-hopcontent), [`blocks_without_all`](crate::words#blocks_without_all), [`content`](crate::words#content-of-slotmap_hop-hopcontent), [`Leaves`](crate::words#leaves), [`live`](crate::words#live), [`StaysHop`](crate::words#stayshop).
 "## };
     (slotmap_hop HopSlotMap from_slots) => { r##"
 # Proved
@@ -1857,6 +2071,8 @@ pub fn from_slots(alloc: Global, list: Vec<SlotRecord<V>>) -> Result<Self, Slots
     ensures accepted { IsOk result → Accepts list.items list_limit }
     ensures err { IfErr result (RefusesStart list.items list_limit) }
 ```
+
+Words: [`Accepts`](crate::words#accepts), [`Ascend`](crate::words#ascend), [`blocks`](crate::words#blocks-of-slotmap_hop-hopcontent), [`content`](crate::words#content-of-slotmap_hop-hopcontent), [`IsHopContent`](crate::words#ishopcontent), [`list_limit`](crate::words#list_limit), [`others`](crate::words#others), [`ReadsAs`](crate::words#readsas), [`RefusesStart`](crate::words#refusesstart).
 "## };
     (slotmap_hop HopSlotMap get) => { r##"
 # Proved
@@ -1868,6 +2084,8 @@ pub fn get(&self, key: K) -> Option<&V>
     ensures value { option_copied result ≡ map.get self.now.content.live (K.data_of key) }
     ensures valid { IsHopContent self.now }
 ```
+
+Words: [`content`](crate::words#content-of-slotmap_hop-hopcontent), [`IsHopContent`](crate::words#ishopcontent), [`live`](crate::words#live).
 "## };
     (slotmap_hop HopSlotMap get_mut) => { r##"
 # Proved
@@ -1880,6 +2098,8 @@ pub fn get_mut(&mut self, key: K) -> Option<&mut V>
     ensures value { option_copied_mut result ≡ map.get self.old.content.live (K.data_of key) }
     ensures valid { IsHopContent self.old }
 ```
+
+Words: [`content`](crate::words#content-of-slotmap_hop-hopcontent), [`IsHopContent`](crate::words#ishopcontent), [`lends_get`](crate::words#lends_get-of-slotmap_hop-lends), [`live`](crate::words#live).
 "## };
     (slotmap_hop HopSlotMap get_unchecked) => { r##"
 # Proved
@@ -1892,6 +2112,8 @@ pub fn get_unchecked(&self, key: K) -> &V
     ensures value { map.get self.now.content.live (K.data_of key) ≡ Some result.now }
     ensures valid { IsHopContent self.now }
 ```
+
+Words: [`content`](crate::words#content-of-slotmap_hop-hopcontent), [`IsHopContent`](crate::words#ishopcontent), [`IsLive`](crate::words#islive), [`live`](crate::words#live).
 "## };
     (slotmap_hop HopSlotMap get_unchecked_mut) => { r##"
 # Proved
@@ -1905,6 +2127,8 @@ pub fn get_unchecked_mut(&mut self, key: K) -> &mut V
     ensures value { map.get self.old.content.live (K.data_of key) ≡ Some result.now }
     ensures valid { IsHopContent self.old }
 ```
+
+Words: [`content`](crate::words#content-of-slotmap_hop-hopcontent), [`IsHopContent`](crate::words#ishopcontent), [`IsLive`](crate::words#islive), [`lends_value`](crate::words#lends_value-of-slotmap_hop-lends), [`live`](crate::words#live).
 "## };
     (slotmap_hop HopSlotMap index) => { r##"
 # Proved
@@ -1918,6 +2142,8 @@ ghost can_index = { λ m key. IsLive m.content (K.data_of key) };
 
 ghost index_gives = { λ m key value. map.get m.content.live (K.data_of key) ≡ Some value };
 ```
+
+Words: [`content`](crate::words#content-of-slotmap_hop-hopcontent), [`IsLive`](crate::words#islive), [`live`](crate::words#live).
 "## };
     (slotmap_hop HopSlotMap index_mut) => { r##"
 # Proved
@@ -1931,6 +2157,8 @@ fn index_mut(&mut self, key: K) -> &mut V
     ensures value { map.get self.old.content.live (K.data_of key) ≡ Some result.now }
     ensures valid { IsHopContent self.old }
 ```
+
+Words: [`content`](crate::words#content-of-slotmap_hop-hopcontent), [`IsHopContent`](crate::words#ishopcontent), [`IsLive`](crate::words#islive), [`lends_value`](crate::words#lends_value-of-slotmap_hop-lends), [`live`](crate::words#live).
 "## };
     (slotmap_hop HopSlotMap insert) => { r##"
 # Proved
@@ -1952,6 +2180,8 @@ pub fn insert(&mut self, value: V) -> Result<K, InsertError<V>>
 
     ensures valid { GrowsHop self.old self.new }
 ```
+
+Words: [`blocks`](crate::words#blocks-of-slotmap_hop-hopcontent), [`content`](crate::words#content-of-slotmap_hop-hopcontent), [`GrowsHop`](crate::words#growshop), [`HasVacant`](crate::words#hasvacant), [`Inserts`](crate::words#inserts), [`Keeps`](crate::words#keeps), [`Refuses`](crate::words#refuses), [`shorter`](crate::words#shorter).
 "## };
     (slotmap_hop HopSlotMap insert_with_key) => { r##"
 # Proved
@@ -1978,6 +2208,8 @@ where
 
     ensures valid { GrowsHop self.old self.new }
 ```
+
+Words: [`blocks`](crate::words#blocks-of-slotmap_hop-hopcontent), [`content`](crate::words#content-of-slotmap_hop-hopcontent), [`GrowsHop`](crate::words#growshop), [`HasVacant`](crate::words#hasvacant), [`Inserts`](crate::words#inserts), [`Keeps`](crate::words#keeps), [`most`](crate::words#most), [`offer`](crate::words#offer), [`RefusesInsert`](crate::words#refusesinsert), [`shorter`](crate::words#shorter), [`used`](crate::words#used).
 "## };
     (slotmap_hop HopSlotMap into_iter) => { r##"
 # Proved
@@ -1989,6 +2221,8 @@ fn into_iter(self) -> IntoIter<K, V>
 
 ghost into_iter_gives = { λ m it. ListsByIndex m.content.live it };
 ```
+
+Words: [`content`](crate::words#content-of-slotmap_hop-hopcontent), [`ListsByIndex`](crate::words#listsbyindex), [`live`](crate::words#live).
 "## };
     (slotmap_hop HopSlotMap is_empty) => { r##"
 # Proved
@@ -2000,6 +2234,8 @@ pub fn is_empty(&self) -> bool
     ensures value { IsTrue result ↔ (map.len self.now.content.live ≡ 0) }
     ensures valid { IsHopContent self.now }
 ```
+
+Words: [`content`](crate::words#content-of-slotmap_hop-hopcontent), [`IsHopContent`](crate::words#ishopcontent), [`live`](crate::words#live).
 "## };
     (slotmap_hop HopSlotMap iter) => { r##"
 # Proved
@@ -2014,6 +2250,8 @@ pub fn iter(&self) -> Iter<'_, K, V>
     ensures reads { result.reads ≡ 0 }
     ensures valid { IsHopContent self.now }
 ```
+
+Words: [`content`](crate::words#content-of-slotmap_hop-hopcontent), [`IsHopContent`](crate::words#ishopcontent), [`IsListing`](crate::words#islisting), [`ListsRetired`](crate::words#listsretired), [`live`](crate::words#live), [`reads`](crate::words#reads-of-slotmap_hop-iter), [`rest`](crate::words#rest), [`retired`](crate::words#retired-of-slotmap_hop-iter).
 "## };
     (slotmap_hop HopSlotMap keys) => { r##"
 # Proved
@@ -2028,6 +2266,8 @@ pub fn keys(&self) -> Keys<'_, K, V>
     ensures reads { result.reads ≡ 0 }
     ensures valid { IsHopContent self.now }
 ```
+
+Words: [`content`](crate::words#content-of-slotmap_hop-hopcontent), [`IsHopContent`](crate::words#ishopcontent), [`IsKeyListing`](crate::words#iskeylisting), [`ListsRetired`](crate::words#listsretired), [`live`](crate::words#live), [`reads`](crate::words#reads-of-slotmap_hop-iter), [`rest`](crate::words#rest), [`retired`](crate::words#retired-of-slotmap_hop-iter).
 "## };
     (slotmap_hop HopSlotMap keys_into) => { r##"
 # Proved
@@ -2041,6 +2281,8 @@ pub fn keys_into(&self, out: &mut Vec<K>) -> Result<(), OutOfMemory>
     ensures unchanged { OnErr result (out.new.items ≡ out.old.items) }
     ensures valid { IsHopContent self.now }
 ```
+
+Words: [`content`](crate::words#content-of-slotmap_hop-hopcontent), [`IsHopContent`](crate::words#ishopcontent), [`live`](crate::words#live).
 "## };
     (slotmap_hop HopSlotMap len) => { r##"
 # Proved
@@ -2052,6 +2294,8 @@ pub fn len(&self) -> usize
     ensures value { result ≡ map.len self.now.content.live }
     ensures valid { IsHopContent self.now }
 ```
+
+Words: [`content`](crate::words#content-of-slotmap_hop-hopcontent), [`IsHopContent`](crate::words#ishopcontent), [`live`](crate::words#live).
 "## };
     (slotmap_hop HopSlotMap new) => { r##"
 # Proved
@@ -2065,6 +2309,8 @@ pub fn new(alloc: Global) -> Result<Self, ReserveError>
     ensures err { IfErr result (λ error. error ≡ ReserveError.Memory) }
     ensures valid { IfOk result IsHopContent }
 ```
+
+Words: [`blocks`](crate::words#blocks-of-slotmap_hop-hopcontent), [`content`](crate::words#content-of-slotmap_hop-hopcontent), [`IsHopContent`](crate::words#ishopcontent), [`IsNew`](crate::words#isnew), [`NoBlocks`](crate::words#noblocks).
 "## };
     (slotmap_hop HopSlotMap remove) => { r##"
 # Proved
@@ -2080,6 +2326,8 @@ pub fn remove(&mut self, key: K) -> Option<V>
     ensures unchanged { IfNone result (self.new ≡ self.old) }
     ensures valid { StaysHop self.old self.new }
 ```
+
+Words: [`blocks`](crate::words#blocks-of-slotmap_hop-hopcontent), [`blocks_without`](crate::words#blocks_without), [`content`](crate::words#content-of-slotmap_hop-hopcontent), [`live`](crate::words#live), [`Removes`](crate::words#removes), [`StaysHop`](crate::words#stayshop).
 "## };
     (slotmap_hop HopSlotMap replace) => { r##"
 # Proved
@@ -2094,6 +2342,8 @@ pub fn replace(&mut self, key: K, value: V) -> Result<V, V>
     ensures unchanged { OnErr result (self.new ≡ self.old) }
     ensures valid { StaysHop self.old self.new }
 ```
+
+Words: [`content`](crate::words#content-of-slotmap_hop-hopcontent), [`hop_with_value`](crate::words#hop_with_value), [`live`](crate::words#live), [`StaysHop`](crate::words#stayshop).
 "## };
     (slotmap_hop HopSlotMap replace_disjoint) => { r##"
 # Proved
@@ -2115,6 +2365,8 @@ pub fn replace_disjoint<const N: usize>(
 
     ensures valid { StaysHop self.old self.new }
 ```
+
+Words: [`AreValuesOf`](crate::words#arevaluesof-of-slotmap_core-disjoint), [`CanReplace`](crate::words#canreplace-of-slotmap_core-disjoint), [`content`](crate::words#content-of-slotmap_hop-hopcontent), [`hop_with_values`](crate::words#hop_with_values), [`StaysHop`](crate::words#stayshop).
 "## };
     (slotmap_hop HopSlotMap reserve) => { r##"
 # Proved
@@ -2127,6 +2379,8 @@ pub fn reserve(&mut self, additional: usize) -> Result<(), ReserveError>
     ensures err { IfErr result (RefusesCapacity (used self.old.content + additional)) }
     ensures reuses { additional ≤ map.len self.old.content.next → IsOk result }
 ```
+
+Words: [`content`](crate::words#content-of-slotmap_hop-hopcontent), [`MakesHopRoom`](crate::words#makeshoproom), [`next`](crate::words#next), [`RefusesCapacity`](crate::words#refusescapacity), [`used`](crate::words#used).
 "## };
     (slotmap_hop HopSlotMap retain) => { r##"
 # Proved
@@ -2144,6 +2398,8 @@ where
     ensures leaves { Leaves self.old.content self.new.content }
     ensures valid { StaysHop self.old self.new }
 ```
+
+Words: [`CallableOnEach`](crate::words#callableoneach), [`content`](crate::words#content-of-slotmap_hop-hopcontent), [`Leaves`](crate::words#leaves), [`live`](crate::words#live), [`RetainsBy`](crate::words#retainsby), [`RetainsByIndex`](crate::words#retainsbyindex), [`StaysHop`](crate::words#stayshop).
 "## };
     (slotmap_hop HopSlotMap to_slots) => { r##"
 # Proved
@@ -2167,6 +2423,8 @@ where
 
     ensures valid { IsHopContent self.now }
 ```
+
+Words: [`ClonesEqual`](crate::words#clonesequal), [`content`](crate::words#content-of-slotmap_hop-hopcontent), [`IsCloneOf`](crate::words#iscloneof), [`IsHopContent`](crate::words#ishopcontent), [`Key`](crate::words#key), [`live`](crate::words#live), [`start_live`](crate::words#start_live), [`Writes`](crate::words#writes), [`WritesClones`](crate::words#writesclones).
 "## };
     (slotmap_hop HopSlotMap try_insert_with_key) => { r##"
 # Proved
@@ -2196,6 +2454,8 @@ where
 
     ensures valid { GrowsHop self.old self.new }
 ```
+
+Words: [`blocks`](crate::words#blocks-of-slotmap_hop-hopcontent), [`content`](crate::words#content-of-slotmap_hop-hopcontent), [`GrowsHop`](crate::words#growshop), [`Inserts`](crate::words#inserts), [`Keeps`](crate::words#keeps), [`most`](crate::words#most), [`next`](crate::words#next), [`offer`](crate::words#offer), [`RefusesWith`](crate::words#refuseswith), [`shorter`](crate::words#shorter), [`used`](crate::words#used).
 "## };
     (slotmap_hop HopSlotMap try_reserve) => { r##"
 # Proved
@@ -2208,6 +2468,8 @@ pub fn try_reserve(&mut self, additional: usize) -> Result<(), ReserveError>
     ensures err { IfErr result (RefusesCapacity (used self.old.content + additional)) }
     ensures reuses { additional ≤ map.len self.old.content.next → IsOk result }
 ```
+
+Words: [`content`](crate::words#content-of-slotmap_hop-hopcontent), [`MakesHopRoom`](crate::words#makeshoproom), [`next`](crate::words#next), [`RefusesCapacity`](crate::words#refusescapacity), [`used`](crate::words#used).
 "## };
     (slotmap_hop HopSlotMap values) => { r##"
 # Proved
@@ -2222,6 +2484,8 @@ pub fn values(&self) -> Values<'_, K, V>
     ensures reads { result.reads ≡ 0 }
     ensures valid { IsHopContent self.now }
 ```
+
+Words: [`content`](crate::words#content-of-slotmap_hop-hopcontent), [`IsHopContent`](crate::words#ishopcontent), [`IsValueListing`](crate::words#isvaluelisting), [`ListsRetired`](crate::words#listsretired), [`live`](crate::words#live), [`reads`](crate::words#reads-of-slotmap_hop-iter), [`rest`](crate::words#rest), [`retired`](crate::words#retired-of-slotmap_hop-iter).
 "## };
     (slotmap_hop HopSlotMap with_capacity) => { r##"
 # Proved
@@ -2237,6 +2501,8 @@ pub fn with_capacity(alloc: Global, capacity: usize) -> Result<Self, ReserveErro
     ensures err { IfErr result (RefusesCapacity capacity) }
     ensures valid { IfOk result IsHopContent }
 ```
+
+Words: [`blocks`](crate::words#blocks-of-slotmap_hop-hopcontent), [`capacity`](crate::words#capacity-of-slotmap_core-content), [`content`](crate::words#content-of-slotmap_hop-hopcontent), [`IsHopContent`](crate::words#ishopcontent), [`IsNew`](crate::words#isnew), [`NoBlocks`](crate::words#noblocks), [`RefusesCapacity`](crate::words#refusescapacity), [`room`](crate::words#room-of-slotmap_core-content).
 "## };
     (slotmap_hop HopSlotMap with_capacity_and_key) => { r##"
 # Proved
@@ -2252,6 +2518,8 @@ pub fn with_capacity_and_key(alloc: Global, capacity: usize) -> Result<Self, Res
     ensures err { IfErr result (RefusesCapacity capacity) }
     ensures valid { IfOk result IsHopContent }
 ```
+
+Words: [`blocks`](crate::words#blocks-of-slotmap_hop-hopcontent), [`capacity`](crate::words#capacity-of-slotmap_core-content), [`content`](crate::words#content-of-slotmap_hop-hopcontent), [`IsHopContent`](crate::words#ishopcontent), [`IsNew`](crate::words#isnew), [`NoBlocks`](crate::words#noblocks), [`RefusesCapacity`](crate::words#refusescapacity), [`room`](crate::words#room-of-slotmap_core-content).
 "## };
     (slotmap_hop HopSlotMap with_key) => { r##"
 # Proved
@@ -2265,6 +2533,8 @@ pub fn with_key(alloc: Global) -> Result<Self, ReserveError>
     ensures err { IfErr result (λ error. error ≡ ReserveError.Memory) }
     ensures valid { IfOk result IsHopContent }
 ```
+
+Words: [`blocks`](crate::words#blocks-of-slotmap_hop-hopcontent), [`content`](crate::words#content-of-slotmap_hop-hopcontent), [`IsHopContent`](crate::words#ishopcontent), [`IsNew`](crate::words#isnew), [`NoBlocks`](crate::words#noblocks).
 "## };
     (slotmap_hop IntoIter clone) => { r##"
 # Proved
@@ -2277,6 +2547,8 @@ pub fn clone(&self) -> Result<Self, AllocError>
     // Where clones equal their values, the second one yields the same pairs.
     ensures copies_if_clones_equal { IfOk result (λ copy. ClonesEqual V.is_clone → copy ≡ self.now) }
 ```
+
+Words: [`AreClones`](crate::words#areclones), [`ClonesEqual`](crate::words#clonesequal).
 "## };
     (slotmap_hop IntoIter len) => { r##"
 # Proved
@@ -2335,6 +2607,8 @@ What is proved of the call that this one makes:
 pub fn len(&self) -> usize
     ensures { result ≡ length self.now.rest }
 ```
+
+Words: [`rest`](crate::words#rest).
 "## };
     (slotmap_hop Iter next) => { r##"
 # Proved
@@ -2348,6 +2622,8 @@ ghost next_gives = { λ old given new. YieldsFirstBy (λ item. (K.data_of item.0
 
 ghost remaining = { item_count (λ it. it.rest) };
 ```
+
+Words: [`CountsReads`](crate::words#countsreads), [`rest`](crate::words#rest).
 "## };
     (slotmap_hop Iter reads) => { r##"
 # Proved
@@ -2358,6 +2634,8 @@ What is proved of the call that this one makes:
 pub fn reads(&self) -> usize
     ensures { result ≡ self.now.reads }
 ```
+
+Words: [`reads`](crate::words#reads-of-slotmap_hop-iter).
 "## };
     (slotmap_hop Iter size_hint) => { r##"
 # Proved
@@ -2370,6 +2648,8 @@ fn size_hint(&self) -> (usize, Option<usize>)
     ensures upper { IfSome result.1 (UpTo (at_most (length self.now.rest))) }
     ensures exact { result ≡ (length self.now.rest, Some (length self.now.rest)) }
 ```
+
+Words: [`rest`](crate::words#rest).
 "## };
     (slotmap_hop Keys clone) => { r##"
 # Proved
@@ -2393,6 +2673,8 @@ What is proved of the call that this one makes:
 pub fn len(&self) -> usize
     ensures { result ≡ length self.now.rest }
 ```
+
+Words: [`rest`](crate::words#rest).
 "## };
     (slotmap_hop Keys next) => { r##"
 # Proved
@@ -2406,6 +2688,8 @@ ghost next_gives = { λ old given new. YieldsFirstBy K.data_of (λ it. it.rest) 
 
 ghost remaining = { item_count (λ it. it.rest) };
 ```
+
+Words: [`CountsReads`](crate::words#countsreads), [`rest`](crate::words#rest).
 "## };
     (slotmap_hop Keys reads) => { r##"
 # Proved
@@ -2416,6 +2700,8 @@ What is proved of the call that this one makes:
 pub fn reads(&self) -> usize
     ensures { result ≡ self.now.reads }
 ```
+
+Words: [`reads`](crate::words#reads-of-slotmap_hop-iter).
 "## };
     (slotmap_hop Keys size_hint) => { r##"
 # Proved
@@ -2428,6 +2714,8 @@ fn size_hint(&self) -> (usize, Option<usize>)
     ensures upper { IfSome result.1 (UpTo (at_most (length self.now.rest))) }
     ensures exact { result ≡ (length self.now.rest, Some (length self.now.rest)) }
 ```
+
+Words: [`rest`](crate::words#rest).
 "## };
     (slotmap_hop Values clone) => { r##"
 # Proved
@@ -2451,6 +2739,8 @@ What is proved of the call that this one makes:
 pub fn len(&self) -> usize
     ensures { result ≡ length self.now.rest }
 ```
+
+Words: [`rest`](crate::words#rest).
 "## };
     (slotmap_hop Values next) => { r##"
 # Proved
@@ -2464,6 +2754,8 @@ ghost next_gives = { λ old given new. YieldsFirstBy (λ item. item.now) (λ it.
 
 ghost remaining = { item_count (λ it. it.rest) };
 ```
+
+Words: [`CountsReadsSomewhere`](crate::words#countsreadssomewhere), [`rest`](crate::words#rest).
 "## };
     (slotmap_hop Values reads) => { r##"
 # Proved
@@ -2474,6 +2766,8 @@ What is proved of the call that this one makes:
 pub fn reads(&self) -> usize
     ensures { result ≡ self.now.reads }
 ```
+
+Words: [`reads`](crate::words#reads-of-slotmap_hop-iter).
 "## };
     (slotmap_hop Values size_hint) => { r##"
 # Proved
@@ -2486,6 +2780,8 @@ fn size_hint(&self) -> (usize, Option<usize>)
     ensures upper { IfSome result.1 (UpTo (at_most (length self.now.rest))) }
     ensures exact { result ≡ (length self.now.rest, Some (length self.now.rest)) }
 ```
+
+Words: [`rest`](crate::words#rest).
 "## };
     (slotmap_secondary Drain next) => { r##"
 # Proved
@@ -2501,6 +2797,8 @@ ghost next_gives = { SideDrainSteps K.data_of };
 
 ghost remaining = { drain_count };
 ```
+
+Words: [`drain_count`](crate::words#drain_count-of-slotmap_secondary-drain), [`SideDrainCanStep`](crate::words#sidedraincanstep), [`SideDrainSteps`](crate::words#sidedrainsteps).
 "## };
     (slotmap_secondary Drain size_hint) => { r##"
 # Proved
@@ -2513,6 +2811,8 @@ fn size_hint(&self) -> (usize, Option<usize>)
     ensures upper { IfSome result.1 (UpTo (drain_count self.now)) }
     ensures exact { result ≡ (size (drain_count self.now), Some (size (drain_count self.now))) }
 ```
+
+Words: [`drain_count`](crate::words#drain_count-of-slotmap_secondary-drain).
 "## };
     (slotmap_secondary Entry and_modify) => { r##"
 # Proved
@@ -2533,6 +2833,8 @@ where
     ensures same_removal { entry_without K.data_of result ≡ entry_without K.data_of self.entry }
     ensures value { ModifiesValue F.FnOnce f (side_entry_value K.data_of self.entry) (side_entry_value K.data_of result) }
 ```
+
+Words: [`entry_lender`](crate::words#entry_lender-of-slotmap_secondary-entry), [`entry_without`](crate::words#entry_without-of-slotmap_secondary-entry), [`IsSideInPlace`](crate::words#issideinplace), [`side_entry_key`](crate::words#side_entry_key), [`side_entry_value`](crate::words#side_entry_value), [`side_entry_with`](crate::words#side_entry_with).
 "## };
     (slotmap_secondary Entry key) => { r##"
 # Proved
@@ -2543,6 +2845,8 @@ What is proved of the call that this one makes:
 pub fn key(&self) -> K
     ensures { result ≡ side_entry_key self.now }
 ```
+
+Words: [`side_entry_key`](crate::words#side_entry_key).
 "## };
     (slotmap_secondary Entry or_default) => { r##"
 # Proved
@@ -2557,6 +2861,8 @@ where
     ensures* writes_back { sem 𝓛 (entry_lends K.row V.row K.data_of self.entry result) }
     ensures value { UnwrapsOrElse (side_entry_value K.data_of self.entry) V.is_default result.now }
 ```
+
+Words: [`entry_lends`](crate::words#entry_lends-of-slotmap_secondary-entry), [`IsSideInPlace`](crate::words#issideinplace), [`side_entry_value`](crate::words#side_entry_value).
 "## };
     (slotmap_secondary Entry or_insert) => { r##"
 # Proved
@@ -2569,6 +2875,8 @@ pub fn or_insert(self, value: V) -> &'a mut V
     ensures* writes_back { sem 𝓛 (entry_lends K.row V.row K.data_of self.entry result) }
     ensures value { result.now ≡ unwrap_or (side_entry_value K.data_of self.entry) value }
 ```
+
+Words: [`entry_lends`](crate::words#entry_lends-of-slotmap_secondary-entry), [`IsSideInPlace`](crate::words#issideinplace), [`side_entry_value`](crate::words#side_entry_value).
 "## };
     (slotmap_secondary Entry or_insert_with) => { r##"
 # Proved
@@ -2584,6 +2892,8 @@ where
     ensures* writes_back { sem 𝓛 (entry_lends K.row V.row K.data_of self.entry result) }
     ensures value { UnwrapsOrElse (side_entry_value K.data_of self.entry) (F.post f) result.now }
 ```
+
+Words: [`entry_lends`](crate::words#entry_lends-of-slotmap_secondary-entry), [`IsSideInPlace`](crate::words#issideinplace), [`side_entry_value`](crate::words#side_entry_value).
 "## };
     (slotmap_secondary IntoIter len) => { r##"
 # Proved
@@ -2726,6 +3036,8 @@ pub fn get(&self) -> &V
     requires { IsSideInPlace K.data_of (Occupied self.now) }
     ensures { side_entry_value K.data_of (Occupied self.now) ≡ Some result.now }
 ```
+
+Words: [`IsSideInPlace`](crate::words#issideinplace), [`side_entry_value`](crate::words#side_entry_value).
 "## };
     (slotmap_secondary OccupiedEntry get_mut) => { r##"
 # Proved
@@ -2739,6 +3051,8 @@ pub fn get_mut(&mut self) -> &mut V
     ensures value { side_entry_value K.data_of (Occupied self.old) ≡ Some result.now }
     ensures written { (w : V) → IsWritten K.data_of (Occupied self.old) w (Occupied (occupied_with K.data_of self.old w)) }
 ```
+
+Words: [`IsSideInPlace`](crate::words#issideinplace), [`IsWritten`](crate::words#iswritten-of-slotmap_secondary-entry), [`occupied_lends`](crate::words#occupied_lends-of-slotmap_secondary-entry), [`occupied_with`](crate::words#occupied_with-of-slotmap_secondary-entry), [`side_entry_value`](crate::words#side_entry_value).
 "## };
     (slotmap_secondary OccupiedEntry insert) => { r##"
 # Proved
@@ -2751,6 +3065,8 @@ pub fn insert(&mut self, value: V) -> V
     ensures old { side_entry_value K.data_of (Occupied self.old) ≡ Some result }
     ensures written { IsWritten K.data_of (Occupied self.old) value (Occupied self.new) }
 ```
+
+Words: [`IsSideInPlace`](crate::words#issideinplace), [`IsWritten`](crate::words#iswritten-of-slotmap_secondary-entry), [`side_entry_value`](crate::words#side_entry_value).
 "## };
     (slotmap_secondary OccupiedEntry into_mut) => { r##"
 # Proved
@@ -2763,6 +3079,8 @@ pub fn into_mut(self) -> &'a mut V
     ensures* writes_back { sem 𝓛 (entry_lends K.row V.row K.data_of (Occupied self.entry) result) }
     ensures value { side_entry_value K.data_of (Occupied self.entry) ≡ Some result.now }
 ```
+
+Words: [`entry_lends`](crate::words#entry_lends-of-slotmap_secondary-entry), [`IsSideInPlace`](crate::words#issideinplace), [`side_entry_value`](crate::words#side_entry_value).
 "## };
     (slotmap_secondary OccupiedEntry key) => { r##"
 # Proved
@@ -2773,6 +3091,8 @@ What is proved of the call that this one makes:
 pub fn key(&self) -> K
     ensures { result ≡ side_entry_key (Occupied self.now) }
 ```
+
+Words: [`side_entry_key`](crate::words#side_entry_key).
 "## };
     (slotmap_secondary OccupiedEntry remove) => { r##"
 # Proved
@@ -2785,6 +3105,8 @@ pub fn remove(self) -> V
     ensures value { side_entry_value K.data_of (Occupied self.entry) ≡ Some result }
     ensures removes { self.exit.0.now ≡ entry_without K.data_of (Occupied self.entry) }
 ```
+
+Words: [`entry_without`](crate::words#entry_without-of-slotmap_secondary-entry), [`IsSideInPlace`](crate::words#issideinplace), [`side_entry_value`](crate::words#side_entry_value).
 "## };
     (slotmap_secondary OccupiedEntry remove_entry) => { r##"
 # Proved
@@ -2798,6 +3120,8 @@ pub fn remove_entry(self) -> (K, V)
     ensures value { side_entry_value K.data_of (Occupied self.entry) ≡ Some result.1 }
     ensures removes { self.exit.0.now ≡ entry_without K.data_of (Occupied self.entry) }
 ```
+
+Words: [`entry_without`](crate::words#entry_without-of-slotmap_secondary-entry), [`IsSideInPlace`](crate::words#issideinplace), [`side_entry_key`](crate::words#side_entry_key), [`side_entry_value`](crate::words#side_entry_value).
 "## };
     (slotmap_secondary SecondaryMap capacity) => { r##"
 # Proved
@@ -2810,6 +3134,8 @@ pub fn capacity(&self) -> usize
     ensures fits { map.len self.now.pairs ≤ result + 1 }
     ensures valid { IsSideContent self.now }
 ```
+
+Words: [`capacity`](crate::words#capacity-of-slotmap_secondary-content), [`IsSideContent`](crate::words#issidecontent), [`pairs`](crate::words#pairs-of-slotmap_secondary-content).
 "## };
     (slotmap_secondary SecondaryMap clear) => { r##"
 # Proved
@@ -2821,6 +3147,8 @@ pub fn clear(&mut self)
     ensures empty { self.new ≡ record self.old { pairs = map.empty } }
     ensures valid { IsSideContent self.new }
 ```
+
+Words: [`IsSideContent`](crate::words#issidecontent).
 "## };
     (slotmap_secondary SecondaryMap clone) => { r##"
 # Proved
@@ -2838,6 +3166,8 @@ pub fn clone(&self) -> Result<Self, AllocError>
 
     ensures valid { IfOk result IsSideContent }
 ```
+
+Words: [`capacity`](crate::words#capacity-of-slotmap_secondary-content), [`ClonesEqual`](crate::words#clonesequal), [`HasClones`](crate::words#hasclones), [`IsSideContent`](crate::words#issidecontent), [`pairs`](crate::words#pairs-of-slotmap_secondary-content), [`places`](crate::words#places-of-slotmap_secondary-content).
 "## };
     (slotmap_secondary SecondaryMap clone_from) => { r##"
 # Proved
@@ -2858,6 +3188,8 @@ where
     ensures unchanged { OnErr result (self.new ≡ self.old) }
     ensures valid { OnOk result (IsSideContent self.new) }
 ```
+
+Words: [`capacity`](crate::words#capacity-of-slotmap_secondary-content), [`ClonesEqual`](crate::words#clonesequal), [`HasClones`](crate::words#hasclones), [`IsSideContent`](crate::words#issidecontent), [`pairs`](crate::words#pairs-of-slotmap_secondary-content), [`places`](crate::words#places-of-slotmap_secondary-content).
 "## };
     (slotmap_secondary SecondaryMap contains_key) => { r##"
 # Proved
@@ -2869,6 +3201,8 @@ pub fn contains_key(&self, key: K) -> bool
     ensures value { result ≡ contains_key self.now.pairs (K.data_of key) }
     ensures valid { IsSideContent self.now }
 ```
+
+Words: [`contains_key`](crate::words#contains_key), [`IsSideContent`](crate::words#issidecontent), [`pairs`](crate::words#pairs-of-slotmap_secondary-content).
 "## };
     (slotmap_secondary SecondaryMap drain) => { r##"
 # Proved
@@ -2888,6 +3222,8 @@ pub fn drain(&mut self) -> Drain<'_, K, V>
 
     ensures valid { IsSideContent self.old }
 ```
+
+Words: [`EmptiesSide`](crate::words#emptiesside), [`InOrderAlong`](crate::words#inorderalong), [`IsSideContent`](crate::words#issidecontent), [`KeepsAlong`](crate::words#keepsalong), [`KeepsLoan`](crate::words#keepsloan), [`keyed`](crate::words#keyed), [`ListsAlong`](crate::words#listsalong), [`pairs`](crate::words#pairs-of-slotmap_secondary-content), [`side_drain_loan`](crate::words#side_drain_loan), [`SideDrainCanStep`](crate::words#sidedraincanstep), [`SideDrainSteps`](crate::words#sidedrainsteps).
 "## };
     (slotmap_secondary SecondaryMap entry) => { r##"
 # Proved
@@ -2905,6 +3241,8 @@ pub fn entry(&mut self, key: K) -> Result<Option<Entry<'_, K, V>>, OutOfMemory>
 
     ensures valid { IsSideContent self.old }
 ```
+
+Words: [`capacity`](crate::words#capacity-of-slotmap_secondary-content), [`Enters`](crate::words#enters-of-slotmap_secondary-entry), [`entry`](crate::words#entry-of-slotmap_core-secondary), [`IfEntry`](crate::words#ifentry-of-slotmap_secondary-entry), [`index`](crate::words#index), [`IsEntryOf`](crate::words#isentryof-of-slotmap_secondary-entry), [`IsSideContent`](crate::words#issidecontent), [`pairs`](crate::words#pairs-of-slotmap_secondary-content), [`vacant`](crate::words#vacant).
 "## };
     (slotmap_secondary SecondaryMap eq) => { r##"
 # Proved
@@ -2916,6 +3254,8 @@ fn eq(&self, other: &Self) -> bool
     ensures value { result ≡ are_equal V.eq self.now.pairs other.now.pairs }
     ensures which { IsTrue result ↔ AreEqual V.eq self.now.pairs other.now.pairs }
 ```
+
+Words: [`are_equal`](crate::words#are_equal), [`AreEqual`](crate::words#areequal), [`pairs`](crate::words#pairs-of-slotmap_secondary-content).
 "## };
     (slotmap_secondary SecondaryMap extend) => { r##"
 # Proved
@@ -2935,6 +3275,8 @@ pub fn extend<I: IntoIterator<Item = (K, V)>>(&mut self, iter: I) -> Result<(), 
 
     ensures valid { IsSideContent self.new }
 ```
+
+Words: [`capacity`](crate::words#capacity-of-slotmap_secondary-content), [`Extends`](crate::words#extends), [`Grows`](crate::words#grows), [`index`](crate::words#index), [`IsSideContent`](crate::words#issidecontent), [`pairs`](crate::words#pairs-of-slotmap_secondary-content).
 "## };
     (slotmap_secondary SecondaryMap extend_refs) => { r##"
 # Proved
@@ -2959,6 +3301,8 @@ where
 
     ensures valid { IsSideContent self.new }
 ```
+
+Words: [`capacity`](crate::words#capacity-of-slotmap_secondary-content), [`ExtendsBy`](crate::words#extendsby), [`Grows`](crate::words#grows), [`index`](crate::words#index), [`IsSideContent`](crate::words#issidecontent), [`pairs`](crate::words#pairs-of-slotmap_secondary-content).
 "## };
     (slotmap_secondary SecondaryMap from_iter) => { r##"
 # Proved
@@ -2982,6 +3326,8 @@ where
         × LacksPlace K.data_of pairs pair)) }
     ensures valid { IfOk result IsSideContent }
 ```
+
+Words: [`AllPut`](crate::words#allput), [`EndsAtPair`](crate::words#endsatpair), [`IsSideContent`](crate::words#issidecontent), [`LacksPlace`](crate::words#lacksplace), [`pairs`](crate::words#pairs-of-slotmap_secondary-content), [`places`](crate::words#places-of-slotmap_secondary-content).
 "## };
     (slotmap_secondary SecondaryMap from_slots) => { r##"
 # Proved
@@ -2998,6 +3344,8 @@ pub fn from_slots(alloc: Global, list: Vec<SlotRecord<V>>) -> Result<Self, Slots
     ensures accepted { IsOk result → Accepts list.items side_list_limit }
     ensures err { IfErr result (RefusesStart list.items side_list_limit) }
 ```
+
+Words: [`Accepts`](crate::words#accepts), [`IsSideContent`](crate::words#issidecontent), [`keyed`](crate::words#keyed), [`pairs`](crate::words#pairs-of-slotmap_secondary-content), [`places`](crate::words#places-of-slotmap_secondary-content), [`RefusesStart`](crate::words#refusesstart), [`side_list_limit`](crate::words#side_list_limit), [`start_live`](crate::words#start_live).
 "## };
     (slotmap_secondary SecondaryMap get) => { r##"
 # Proved
@@ -3009,6 +3357,8 @@ pub fn get(&self, key: K) -> Option<&V>
     ensures value { option_copied result ≡ get self.now.pairs (K.data_of key) }
     ensures valid { IsSideContent self.now }
 ```
+
+Words: [`get`](crate::words#get), [`IsSideContent`](crate::words#issidecontent), [`pairs`](crate::words#pairs-of-slotmap_secondary-content).
 "## };
     (slotmap_secondary SecondaryMap get_mut) => { r##"
 # Proved
@@ -3021,6 +3371,8 @@ pub fn get_mut(&mut self, key: K) -> Option<&mut V>
     ensures value { option_copied_mut result ≡ get self.old.pairs (K.data_of key) }
     ensures valid { IsSideContent self.old }
 ```
+
+Words: [`get`](crate::words#get), [`IsSideContent`](crate::words#issidecontent), [`lends_get`](crate::words#lends_get-of-slotmap_secondary-lends), [`pairs`](crate::words#pairs-of-slotmap_secondary-content).
 "## };
     (slotmap_secondary SecondaryMap get_unchecked) => { r##"
 # Proved
@@ -3033,6 +3385,8 @@ pub fn get_unchecked(&self, key: K) -> &V
     ensures value { get self.now.pairs (K.data_of key) ≡ Some result.now }
     ensures valid { IsSideContent self.now }
 ```
+
+Words: [`contains_key`](crate::words#contains_key), [`get`](crate::words#get), [`IsSideContent`](crate::words#issidecontent), [`pairs`](crate::words#pairs-of-slotmap_secondary-content).
 "## };
     (slotmap_secondary SecondaryMap get_unchecked_mut) => { r##"
 # Proved
@@ -3046,6 +3400,8 @@ pub fn get_unchecked_mut(&mut self, key: K) -> &mut V
     ensures value { get self.old.pairs (K.data_of key) ≡ Some result.now }
     ensures valid { IsSideContent self.old }
 ```
+
+Words: [`contains_key`](crate::words#contains_key), [`get`](crate::words#get), [`IsSideContent`](crate::words#issidecontent), [`lends_value`](crate::words#lends_value-of-slotmap_secondary-lends), [`pairs`](crate::words#pairs-of-slotmap_secondary-content).
 "## };
     (slotmap_secondary SecondaryMap index) => { r##"
 # Proved
@@ -3059,6 +3415,8 @@ ghost can_index = { λ m key. contains_key m.pairs (K.data_of key) ≡ true };
 
 ghost index_gives = { λ m key value. get m.pairs (K.data_of key) ≡ Some value };
 ```
+
+Words: [`contains_key`](crate::words#contains_key), [`get`](crate::words#get), [`pairs`](crate::words#pairs-of-slotmap_secondary-content).
 "## };
     (slotmap_secondary SecondaryMap index_mut) => { r##"
 # Proved
@@ -3072,6 +3430,8 @@ fn index_mut(&mut self, key: K) -> &mut V
     ensures value { get self.old.pairs (K.data_of key) ≡ Some result.now }
     ensures valid { IsSideContent self.old }
 ```
+
+Words: [`contains_key`](crate::words#contains_key), [`get`](crate::words#get), [`IsSideContent`](crate::words#issidecontent), [`lends_value`](crate::words#lends_value-of-slotmap_secondary-lends), [`pairs`](crate::words#pairs-of-slotmap_secondary-content).
 "## };
     (slotmap_secondary SecondaryMap insert) => { r##"
 # Proved
@@ -3091,6 +3451,8 @@ pub fn insert(&mut self, key: K, value: V) -> Result<Option<V>, PutError<V>>
 
     ensures valid { IsSideContent self.new }
 ```
+
+Words: [`capacity`](crate::words#capacity-of-slotmap_secondary-content), [`get`](crate::words#get), [`index`](crate::words#index), [`IsSideContent`](crate::words#issidecontent), [`pairs`](crate::words#pairs-of-slotmap_secondary-content), [`put`](crate::words#put), [`Reaches`](crate::words#reaches), [`RefusesPut`](crate::words#refusesput).
 "## };
     (slotmap_secondary SecondaryMap into_iter) => { r##"
 # Proved
@@ -3102,6 +3464,8 @@ fn into_iter(self) -> IntoIter<K, V>
 
 ghost into_iter_gives = { λ m it. ListsByIndex (keyed m.pairs) it };
 ```
+
+Words: [`keyed`](crate::words#keyed), [`ListsByIndex`](crate::words#listsbyindex), [`pairs`](crate::words#pairs-of-slotmap_secondary-content).
 "## };
     (slotmap_secondary SecondaryMap is_empty) => { r##"
 # Proved
@@ -3113,6 +3477,8 @@ pub fn is_empty(&self) -> bool
     ensures value { IsTrue result ↔ (map.len self.now.pairs ≡ 0) }
     ensures valid { IsSideContent self.now }
 ```
+
+Words: [`IsSideContent`](crate::words#issidecontent), [`pairs`](crate::words#pairs-of-slotmap_secondary-content).
 "## };
     (slotmap_secondary SecondaryMap iter) => { r##"
 # Proved
@@ -3125,6 +3491,8 @@ pub fn iter(&self) -> Iter<'_, K, V>
     ensures in_order { result ≡ map.entries (keyed self.now.pairs) }
     ensures valid { IsSideContent self.now }
 ```
+
+Words: [`IsListing`](crate::words#islisting), [`IsSideContent`](crate::words#issidecontent), [`keyed`](crate::words#keyed), [`pairs`](crate::words#pairs-of-slotmap_secondary-content).
 "## };
     (slotmap_secondary SecondaryMap key_at) => { r##"
 # Proved
@@ -3138,6 +3506,8 @@ pub fn key_at(&self, index: usize) -> Option<K>
     ensures none { IfNone result (map.get self.now.pairs index ≡ None) }
     ensures valid { IsSideContent self.now }
 ```
+
+Words: [`contains_key`](crate::words#contains_key), [`index`](crate::words#index), [`IsSideContent`](crate::words#issidecontent), [`pairs`](crate::words#pairs-of-slotmap_secondary-content).
 "## };
     (slotmap_secondary SecondaryMap keys) => { r##"
 # Proved
@@ -3150,6 +3520,8 @@ pub fn keys(&self) -> Keys<'_, K, V>
     ensures in_order { result ≡ map.keys (keyed self.now.pairs) }
     ensures valid { IsSideContent self.now }
 ```
+
+Words: [`IsKeyListing`](crate::words#iskeylisting), [`IsSideContent`](crate::words#issidecontent), [`keyed`](crate::words#keyed), [`pairs`](crate::words#pairs-of-slotmap_secondary-content).
 "## };
     (slotmap_secondary SecondaryMap len) => { r##"
 # Proved
@@ -3161,6 +3533,8 @@ pub fn len(&self) -> usize
     ensures value { result ≡ map.len self.now.pairs }
     ensures valid { IsSideContent self.now }
 ```
+
+Words: [`IsSideContent`](crate::words#issidecontent), [`pairs`](crate::words#pairs-of-slotmap_secondary-content).
 "## };
     (slotmap_secondary SecondaryMap new) => { r##"
 # Proved
@@ -3174,6 +3548,8 @@ pub fn new(alloc: Global) -> Result<Self, ReserveError>
     ensures err { IfErr result (λ error. error ≡ ReserveError.Memory) }
     ensures valid { IfOk result IsSideContent }
 ```
+
+Words: [`IsSideContent`](crate::words#issidecontent), [`pairs`](crate::words#pairs-of-slotmap_secondary-content), [`places`](crate::words#places-of-slotmap_secondary-content).
 "## };
     (slotmap_secondary SecondaryMap or_put) => { r##"
 # Proved
@@ -3188,6 +3564,8 @@ pub fn or_put(&mut self, key: K, value: V) -> OrPut<V>
     ensures grows { self.old.capacity ≤ self.new.capacity }
     ensures valid { IsSideContent self.new }
 ```
+
+Words: [`capacity`](crate::words#capacity-of-slotmap_secondary-content), [`index`](crate::words#index), [`IsSideContent`](crate::words#issidecontent), [`OrPutReaches`](crate::words#orputreaches), [`OrPuts`](crate::words#orputs), [`pairs`](crate::words#pairs-of-slotmap_secondary-content).
 "## };
     (slotmap_secondary SecondaryMap remove) => { r##"
 # Proved
@@ -3200,6 +3578,8 @@ pub fn remove(&mut self, key: K) -> Option<V>
     ensures removes { self.new ≡ record self.old { pairs = remove self.old.pairs (K.data_of key) } }
     ensures valid { IsSideContent self.new }
 ```
+
+Words: [`get`](crate::words#get), [`IsSideContent`](crate::words#issidecontent), [`pairs`](crate::words#pairs-of-slotmap_secondary-content), [`remove`](crate::words#remove).
 "## };
     (slotmap_secondary SecondaryMap replace_disjoint) => { r##"
 # Proved
@@ -3223,6 +3603,8 @@ pub fn replace_disjoint<const N: usize>(
 
     ensures valid { IsSideContent self.new }
 ```
+
+Words: [`AreValuesOf`](crate::words#arevaluesof-of-slotmap_core-several), [`bind`](crate::words#bind), [`CanReplace`](crate::words#canreplace-of-slotmap_core-several), [`get`](crate::words#get), [`IsSideContent`](crate::words#issidecontent), [`pairs`](crate::words#pairs-of-slotmap_secondary-content), [`with_values`](crate::words#with_values-of-slotmap_core-several).
 "## };
     (slotmap_secondary SecondaryMap retain) => { r##"
 # Proved
@@ -3240,6 +3622,8 @@ where
     ensures keeps { self.new ≡ record self.old { pairs = self.new.pairs } }
     ensures valid { IsSideContent self.new }
 ```
+
+Words: [`CallableOnEach`](crate::words#callableoneach), [`IsSideContent`](crate::words#issidecontent), [`keyed`](crate::words#keyed), [`pairs`](crate::words#pairs-of-slotmap_secondary-content), [`RetainsBy`](crate::words#retainsby).
 "## };
     (slotmap_secondary SecondaryMap set_capacity) => { r##"
 # Proved
@@ -3251,6 +3635,8 @@ pub fn set_capacity(&mut self, capacity: usize) -> Result<(), ReserveError>
     ensures sets { SetsCapacity capacity self.old result self.new }
     ensures valid { IsSideContent self.new }
 ```
+
+Words: [`IsSideContent`](crate::words#issidecontent), [`SetsCapacity`](crate::words#setscapacity).
 "## };
     (slotmap_secondary SecondaryMap to_slots) => { r##"
 # Proved
@@ -3273,6 +3659,8 @@ where
 
     ensures valid { IsSideContent self.now }
 ```
+
+Words: [`ClonesEqual`](crate::words#clonesequal), [`get`](crate::words#get), [`IsCloneOf`](crate::words#iscloneof), [`IsSideContent`](crate::words#issidecontent), [`Key`](crate::words#key), [`keyed`](crate::words#keyed), [`pairs`](crate::words#pairs-of-slotmap_secondary-content), [`start_live`](crate::words#start_live), [`WritesSide`](crate::words#writesside), [`WritesSideClones`](crate::words#writessideclones).
 "## };
     (slotmap_secondary SecondaryMap try_entry) => { r##"
 # Proved
@@ -3290,6 +3678,8 @@ pub fn try_entry(&mut self, key: K) -> Result<Entry<'_, K, V>, NoEntry>
 
     ensures valid { IsSideContent self.old }
 ```
+
+Words: [`capacity`](crate::words#capacity-of-slotmap_secondary-content), [`Enters`](crate::words#enters-of-slotmap_secondary-entry), [`index`](crate::words#index), [`IsEntryOf`](crate::words#isentryof-of-slotmap_secondary-entry), [`IsSideContent`](crate::words#issidecontent), [`pairs`](crate::words#pairs-of-slotmap_secondary-content), [`RefusesEntry`](crate::words#refusesentry), [`rests_if_err`](crate::words#rests_if_err-of-slotmap_secondary-entry).
 "## };
     (slotmap_secondary SecondaryMap try_set_capacity) => { r##"
 # Proved
@@ -3301,6 +3691,8 @@ pub fn try_set_capacity(&mut self, capacity: usize) -> Result<(), ReserveError>
     ensures sets { SetsCapacity capacity self.old result self.new }
     ensures valid { IsSideContent self.new }
 ```
+
+Words: [`IsSideContent`](crate::words#issidecontent), [`SetsCapacity`](crate::words#setscapacity).
 "## };
     (slotmap_secondary SecondaryMap values) => { r##"
 # Proved
@@ -3313,6 +3705,8 @@ pub fn values(&self) -> Values<'_, K, V>
     ensures in_order { result ≡ map.values (keyed self.now.pairs) }
     ensures valid { IsSideContent self.now }
 ```
+
+Words: [`IsSideContent`](crate::words#issidecontent), [`IsValueListing`](crate::words#isvaluelisting), [`keyed`](crate::words#keyed), [`pairs`](crate::words#pairs-of-slotmap_secondary-content).
 "## };
     (slotmap_secondary SecondaryMap with_capacity) => { r##"
 # Proved
@@ -3328,6 +3722,8 @@ pub fn with_capacity(alloc: Global, capacity: usize) -> Result<Self, ReserveErro
     ensures err { IfErr result (RefusesCapacity capacity) }
     ensures valid { IfOk result IsSideContent }
 ```
+
+Words: [`capacity`](crate::words#capacity-of-slotmap_secondary-content), [`IsSideContent`](crate::words#issidecontent), [`most`](crate::words#most), [`pairs`](crate::words#pairs-of-slotmap_secondary-content), [`places`](crate::words#places-of-slotmap_secondary-content), [`RefusesCapacity`](crate::words#refusescapacity).
 "## };
     (slotmap_secondary VacantEntry insert) => { r##"
 # Proved
@@ -3340,6 +3736,8 @@ pub fn insert(self, value: V) -> &'a mut V
     ensures* writes_back { sem 𝓛 (entry_lends K.row V.row K.data_of (Vacant self.entry) result) }
     ensures value { result.now ≡ value }
 ```
+
+Words: [`entry_lends`](crate::words#entry_lends-of-slotmap_secondary-entry), [`IsSideInPlace`](crate::words#issideinplace).
 "## };
     (slotmap_secondary VacantEntry key) => { r##"
 # Proved
@@ -3350,6 +3748,8 @@ What is proved of the call that this one makes:
 pub fn key(&self) -> K
     ensures { result ≡ side_entry_key (Vacant self.now) }
 ```
+
+Words: [`side_entry_key`](crate::words#side_entry_key).
 "## };
     (slotmap_secondary Values clone) => { r##"
 # Proved
@@ -3411,6 +3811,8 @@ ghost next_gives = { SparseDrainSteps K.data_of };
 
 ghost remaining = { drain_count };
 ```
+
+Words: [`drain_count`](crate::words#drain_count-of-slotmap_sparse-drain), [`SparseDrainSteps`](crate::words#sparsedrainsteps).
 "## };
     (slotmap_sparse Drain size_hint) => { r##"
 # Proved
@@ -3423,6 +3825,8 @@ fn size_hint(&self) -> (usize, Option<usize>)
     ensures upper { IfSome result.1 (UpTo (drain_count self.now)) }
     ensures exact { result ≡ (size (drain_count self.now), Some (size (drain_count self.now))) }
 ```
+
+Words: [`drain_count`](crate::words#drain_count-of-slotmap_sparse-drain).
 "## };
     (slotmap_sparse Entry and_modify) => { r##"
 # Proved
@@ -3443,6 +3847,8 @@ where
     ensures same_removal { entry_without K.data_of result ≡ entry_without K.data_of self.entry }
     ensures value { ModifiesValue F.FnOnce f (sparse_entry_value K.data_of self.entry) (sparse_entry_value K.data_of result) }
 ```
+
+Words: [`entry_lender`](crate::words#entry_lender-of-slotmap_sparse-entry), [`entry_without`](crate::words#entry_without-of-slotmap_sparse-entry), [`IsSparseInPlace`](crate::words#issparseinplace), [`sparse_entry_key`](crate::words#sparse_entry_key), [`sparse_entry_value`](crate::words#sparse_entry_value), [`sparse_entry_with`](crate::words#sparse_entry_with).
 "## };
     (slotmap_sparse Entry key) => { r##"
 # Proved
@@ -3453,6 +3859,8 @@ What is proved of the call that this one makes:
 pub fn key(&self) -> K
     ensures { result ≡ sparse_entry_key self.now }
 ```
+
+Words: [`sparse_entry_key`](crate::words#sparse_entry_key).
 "## };
     (slotmap_sparse Entry or_default) => { r##"
 # Proved
@@ -3469,6 +3877,8 @@ where
     ensures err { OnErr result (sparse_entry_value K.data_of self.entry ≡ None) }
     ensures room { map.len (sparse_entry_map self.entry).pairs < (sparse_entry_map self.entry).capacity → IsOk result }
 ```
+
+Words: [`capacity`](crate::words#capacity-of-slotmap_sparse-content), [`entry_lends_ok`](crate::words#entry_lends_ok), [`IsSparseInPlace`](crate::words#issparseinplace), [`pairs`](crate::words#pairs-of-slotmap_sparse-content), [`room`](crate::words#room-of-slotmap_sparse-content), [`sparse_entry_map`](crate::words#sparse_entry_map), [`sparse_entry_value`](crate::words#sparse_entry_value).
 "## };
     (slotmap_sparse Entry or_insert) => { r##"
 # Proved
@@ -3483,6 +3893,8 @@ pub fn or_insert(self, value: V) -> Result<&'a mut V, PutError<V>>
     ensures err { IfErr result (λ error. (sparse_entry_value K.data_of self.entry ≡ None) × (error.0 ≡ value)) }
     ensures room { map.len (sparse_entry_map self.entry).pairs < (sparse_entry_map self.entry).capacity → IsOk result }
 ```
+
+Words: [`capacity`](crate::words#capacity-of-slotmap_sparse-content), [`entry_lends_ok`](crate::words#entry_lends_ok), [`IsSparseInPlace`](crate::words#issparseinplace), [`pairs`](crate::words#pairs-of-slotmap_sparse-content), [`room`](crate::words#room-of-slotmap_sparse-content), [`sparse_entry_map`](crate::words#sparse_entry_map), [`sparse_entry_value`](crate::words#sparse_entry_value).
 "## };
     (slotmap_sparse Entry or_insert_with) => { r##"
 # Proved
@@ -3500,6 +3912,8 @@ where
     ensures err { OnErr result (sparse_entry_value K.data_of self.entry ≡ None) }
     ensures room { map.len (sparse_entry_map self.entry).pairs < (sparse_entry_map self.entry).capacity → IsOk result }
 ```
+
+Words: [`capacity`](crate::words#capacity-of-slotmap_sparse-content), [`entry_lends_ok`](crate::words#entry_lends_ok), [`IsSparseInPlace`](crate::words#issparseinplace), [`pairs`](crate::words#pairs-of-slotmap_sparse-content), [`room`](crate::words#room-of-slotmap_sparse-content), [`sparse_entry_map`](crate::words#sparse_entry_map), [`sparse_entry_value`](crate::words#sparse_entry_value).
 "## };
     (slotmap_sparse IntoIter len) => { r##"
 # Proved
@@ -3642,6 +4056,8 @@ pub fn get(&self) -> &V
     requires { IsSparseInPlace K.data_of (Occupied self.now) }
     ensures { sparse_entry_value K.data_of (Occupied self.now) ≡ Some result.now }
 ```
+
+Words: [`IsSparseInPlace`](crate::words#issparseinplace), [`sparse_entry_value`](crate::words#sparse_entry_value).
 "## };
     (slotmap_sparse OccupiedEntry get_mut) => { r##"
 # Proved
@@ -3655,6 +4071,8 @@ pub fn get_mut(&mut self) -> &mut V
     ensures value { sparse_entry_value K.data_of (Occupied self.old) ≡ Some result.now }
     ensures written { (w : V) → IsWritten K.data_of (Occupied self.old) w (Occupied (occupied_with K.data_of self.old w)) }
 ```
+
+Words: [`IsSparseInPlace`](crate::words#issparseinplace), [`IsWritten`](crate::words#iswritten-of-slotmap_sparse-entry), [`occupied_lends`](crate::words#occupied_lends-of-slotmap_sparse-entry), [`occupied_with`](crate::words#occupied_with-of-slotmap_sparse-entry), [`sparse_entry_value`](crate::words#sparse_entry_value).
 "## };
     (slotmap_sparse OccupiedEntry insert) => { r##"
 # Proved
@@ -3667,6 +4085,8 @@ pub fn insert(&mut self, value: V) -> V
     ensures old { sparse_entry_value K.data_of (Occupied self.old) ≡ Some result }
     ensures written { IsWritten K.data_of (Occupied self.old) value (Occupied self.new) }
 ```
+
+Words: [`IsSparseInPlace`](crate::words#issparseinplace), [`IsWritten`](crate::words#iswritten-of-slotmap_sparse-entry), [`sparse_entry_value`](crate::words#sparse_entry_value).
 "## };
     (slotmap_sparse OccupiedEntry into_mut) => { r##"
 # Proved
@@ -3679,6 +4099,8 @@ pub fn into_mut(self) -> &'a mut V
     ensures* writes_back { sem 𝓛 (entry_lends K.row V.row S.row S.Hasher.row S.BuildHasher S.Hasher.Hasher K.data_of (Occupied self.entry) result) }
     ensures value { sparse_entry_value K.data_of (Occupied self.entry) ≡ Some result.now }
 ```
+
+Words: [`entry_lends`](crate::words#entry_lends-of-slotmap_sparse-entry), [`IsSparseInPlace`](crate::words#issparseinplace), [`sparse_entry_value`](crate::words#sparse_entry_value).
 "## };
     (slotmap_sparse OccupiedEntry key) => { r##"
 # Proved
@@ -3689,6 +4111,8 @@ What is proved of the call that this one makes:
 pub fn key(&self) -> K
     ensures { result ≡ sparse_entry_key (Occupied self.now) }
 ```
+
+Words: [`sparse_entry_key`](crate::words#sparse_entry_key).
 "## };
     (slotmap_sparse OccupiedEntry remove) => { r##"
 # Proved
@@ -3702,6 +4126,8 @@ pub fn remove(self) -> V
     ensures removes { self.exit.0.now.pairs ≡ entry_without K.data_of (Occupied self.entry) }
     ensures room { room (sparse_entry_map (Occupied self.entry)) ≤ room self.exit.0.now }
 ```
+
+Words: [`entry_without`](crate::words#entry_without-of-slotmap_sparse-entry), [`IsSparseInPlace`](crate::words#issparseinplace), [`pairs`](crate::words#pairs-of-slotmap_sparse-content), [`room`](crate::words#room-of-slotmap_sparse-content), [`sparse_entry_map`](crate::words#sparse_entry_map), [`sparse_entry_value`](crate::words#sparse_entry_value).
 "## };
     (slotmap_sparse OccupiedEntry remove_entry) => { r##"
 # Proved
@@ -3716,6 +4142,8 @@ pub fn remove_entry(self) -> (K, V)
     ensures removes { self.exit.0.now.pairs ≡ entry_without K.data_of (Occupied self.entry) }
     ensures room { room (sparse_entry_map (Occupied self.entry)) ≤ room self.exit.0.now }
 ```
+
+Words: [`entry_without`](crate::words#entry_without-of-slotmap_sparse-entry), [`IsSparseInPlace`](crate::words#issparseinplace), [`pairs`](crate::words#pairs-of-slotmap_sparse-content), [`room`](crate::words#room-of-slotmap_sparse-content), [`sparse_entry_key`](crate::words#sparse_entry_key), [`sparse_entry_map`](crate::words#sparse_entry_map), [`sparse_entry_value`](crate::words#sparse_entry_value).
 "## };
     (slotmap_sparse SparseSecondaryMap capacity) => { r##"
 # Proved
@@ -3728,6 +4156,8 @@ pub fn capacity(&self) -> usize
     ensures fits { map.len self.now.pairs ≤ result }
     ensures valid { IsSparseContent self.now }
 ```
+
+Words: [`capacity`](crate::words#capacity-of-slotmap_sparse-content), [`IsSparseContent`](crate::words#issparsecontent), [`pairs`](crate::words#pairs-of-slotmap_sparse-content).
 "## };
     (slotmap_sparse SparseSecondaryMap clear) => { r##"
 # Proved
@@ -3740,6 +4170,8 @@ pub fn clear(&mut self)
     ensures capacity { self.old.capacity ≤ self.new.capacity }
     ensures valid { IsSparseContent self.new }
 ```
+
+Words: [`capacity`](crate::words#capacity-of-slotmap_sparse-content), [`IsSparseContent`](crate::words#issparsecontent), [`pairs`](crate::words#pairs-of-slotmap_sparse-content).
 "## };
     (slotmap_sparse SparseSecondaryMap clone) => { r##"
 # Proved
@@ -3754,6 +4186,8 @@ pub fn clone(&self) -> Result<Self, AllocError>
 
     ensures valid { IfOk result IsSparseContent }
 ```
+
+Words: [`ClonesEqual`](crate::words#clonesequal), [`HasClones`](crate::words#hasclones), [`IsSparseContent`](crate::words#issparsecontent), [`pairs`](crate::words#pairs-of-slotmap_sparse-content).
 "## };
     (slotmap_sparse SparseSecondaryMap clone_from) => { r##"
 # Proved
@@ -3772,6 +4206,8 @@ where
     ensures unchanged { OnErr result (self.new ≡ self.old) }
     ensures valid { OnOk result (IsSparseContent self.new) }
 ```
+
+Words: [`ClonesEqual`](crate::words#clonesequal), [`HasClones`](crate::words#hasclones), [`IsSparseContent`](crate::words#issparsecontent), [`pairs`](crate::words#pairs-of-slotmap_sparse-content).
 "## };
     (slotmap_sparse SparseSecondaryMap contains_key) => { r##"
 # Proved
@@ -3783,6 +4219,8 @@ pub fn contains_key(&self, key: K) -> bool
     ensures value { result ≡ contains_key self.now.pairs (K.data_of key) }
     ensures valid { IsSparseContent self.now }
 ```
+
+Words: [`contains_key`](crate::words#contains_key), [`IsSparseContent`](crate::words#issparsecontent), [`pairs`](crate::words#pairs-of-slotmap_sparse-content).
 "## };
     (slotmap_sparse SparseSecondaryMap drain) => { r##"
 # Proved
@@ -3800,6 +4238,8 @@ pub fn drain(&mut self) -> Drain<'_, K, V, S>
 
     ensures valid { IsSparseContent self.old }
 ```
+
+Words: [`DrainKeeps`](crate::words#drainkeeps), [`IsSparseContent`](crate::words#issparsecontent), [`KeepsAlong`](crate::words#keepsalong), [`keyed`](crate::words#keyed), [`ListsAlong`](crate::words#listsalong), [`pairs`](crate::words#pairs-of-slotmap_sparse-content), [`sparse_drain_loan`](crate::words#sparse_drain_loan), [`SparseDrainSteps`](crate::words#sparsedrainsteps).
 "## };
     (slotmap_sparse SparseSecondaryMap entry) => { r##"
 # Proved
@@ -3813,6 +4253,8 @@ pub fn entry(&mut self, key: K) -> Result<Option<Entry<'_, K, V, S>>, OutOfMemor
     ensures ok { IfEntry result (Enters K.data_of self.entry key) }
     ensures valid { IsSparseContent self.old }
 ```
+
+Words: [`Enters`](crate::words#enters-of-slotmap_sparse-entry), [`entry`](crate::words#entry-of-slotmap_core-secondary), [`IfEntry`](crate::words#ifentry-of-slotmap_sparse-entry), [`IsEntryOf`](crate::words#isentryof-of-slotmap_sparse-entry), [`IsSparseContent`](crate::words#issparsecontent), [`pairs`](crate::words#pairs-of-slotmap_sparse-content).
 "## };
     (slotmap_sparse SparseSecondaryMap eq) => { r##"
 # Proved
@@ -3824,6 +4266,8 @@ fn eq(&self, other: &Self) -> bool
     ensures value { result ≡ are_equal V.eq self.now.pairs other.now.pairs }
     ensures which { IsTrue result ↔ AreEqual V.eq self.now.pairs other.now.pairs }
 ```
+
+Words: [`are_equal`](crate::words#are_equal), [`AreEqual`](crate::words#areequal), [`pairs`](crate::words#pairs-of-slotmap_sparse-content).
 "## };
     (slotmap_sparse SparseSecondaryMap extend) => { r##"
 # Proved
@@ -3845,6 +4289,8 @@ pub fn extend<I: IntoIterator<Item = (K, V)>>(&mut self, iter: I) -> Result<(), 
 
     ensures valid { IsSparseContent self.new }
 ```
+
+Words: [`capacity`](crate::words#capacity-of-slotmap_sparse-content), [`Extends`](crate::words#extends), [`index`](crate::words#index), [`IsSparseContent`](crate::words#issparsecontent), [`pairs`](crate::words#pairs-of-slotmap_sparse-content).
 "## };
     (slotmap_sparse SparseSecondaryMap extend_refs) => { r##"
 # Proved
@@ -3871,6 +4317,8 @@ where
 
     ensures valid { IsSparseContent self.new }
 ```
+
+Words: [`capacity`](crate::words#capacity-of-slotmap_sparse-content), [`ExtendsBy`](crate::words#extendsby), [`index`](crate::words#index), [`IsSparseContent`](crate::words#issparsecontent), [`pairs`](crate::words#pairs-of-slotmap_sparse-content).
 "## };
     (slotmap_sparse SparseSecondaryMap from_iter) => { r##"
 # Proved
@@ -3893,6 +4341,8 @@ where
         × LacksRoomForPair K.data_of pairs pair) }
     ensures valid { IfOk result IsSparseContent }
 ```
+
+Words: [`AllPut`](crate::words#allput), [`IsSparseContent`](crate::words#issparsecontent), [`LacksRoomForPair`](crate::words#lacksroomforpair), [`pairs`](crate::words#pairs-of-slotmap_sparse-content).
 "## };
     (slotmap_sparse SparseSecondaryMap from_iter_with_hasher) => { r##"
 # Proved
@@ -3916,6 +4366,8 @@ where
         × LacksRoomForPair K.data_of pairs pair) }
     ensures valid { IfOk result IsSparseContent }
 ```
+
+Words: [`AllPut`](crate::words#allput), [`IsSparseContent`](crate::words#issparsecontent), [`LacksRoomForPair`](crate::words#lacksroomforpair), [`pairs`](crate::words#pairs-of-slotmap_sparse-content).
 "## };
     (slotmap_sparse SparseSecondaryMap from_slots) => { r##"
 # Proved
@@ -3931,6 +4383,8 @@ pub fn from_slots(alloc: Global, list: Vec<SlotRecord<V>>) -> Result<Self, Slots
     ensures accepted { IsOk result → Accepts list.items side_list_limit }
     ensures err { IfErr result (RefusesStart list.items side_list_limit) }
 ```
+
+Words: [`Accepts`](crate::words#accepts), [`IsSparseContent`](crate::words#issparsecontent), [`keyed`](crate::words#keyed), [`pairs`](crate::words#pairs-of-slotmap_sparse-content), [`RefusesStart`](crate::words#refusesstart), [`side_list_limit`](crate::words#side_list_limit), [`start_live`](crate::words#start_live).
 "## };
     (slotmap_sparse SparseSecondaryMap from_slots_with_hasher) => { r##"
 # Proved
@@ -3950,6 +4404,8 @@ pub fn from_slots_with_hasher(
     ensures accepted { IsOk result → Accepts list.items side_list_limit }
     ensures err { IfErr result (RefusesStart list.items side_list_limit) }
 ```
+
+Words: [`Accepts`](crate::words#accepts), [`IsSparseContent`](crate::words#issparsecontent), [`keyed`](crate::words#keyed), [`pairs`](crate::words#pairs-of-slotmap_sparse-content), [`RefusesStart`](crate::words#refusesstart), [`side_list_limit`](crate::words#side_list_limit), [`start_live`](crate::words#start_live).
 "## };
     (slotmap_sparse SparseSecondaryMap get) => { r##"
 # Proved
@@ -3961,6 +4417,8 @@ pub fn get(&self, key: K) -> Option<&V>
     ensures value { option_copied result ≡ get self.now.pairs (K.data_of key) }
     ensures valid { IsSparseContent self.now }
 ```
+
+Words: [`get`](crate::words#get), [`IsSparseContent`](crate::words#issparsecontent), [`pairs`](crate::words#pairs-of-slotmap_sparse-content).
 "## };
     (slotmap_sparse SparseSecondaryMap get_mut) => { r##"
 # Proved
@@ -3973,6 +4431,8 @@ pub fn get_mut(&mut self, key: K) -> Option<&mut V>
     ensures value { option_copied_mut result ≡ get self.old.pairs (K.data_of key) }
     ensures valid { IsSparseContent self.old }
 ```
+
+Words: [`get`](crate::words#get), [`IsSparseContent`](crate::words#issparsecontent), [`lends_get`](crate::words#lends_get-of-slotmap_sparse-lends), [`pairs`](crate::words#pairs-of-slotmap_sparse-content).
 "## };
     (slotmap_sparse SparseSecondaryMap get_unchecked) => { r##"
 # Proved
@@ -3985,6 +4445,8 @@ pub fn get_unchecked(&self, key: K) -> &V
     ensures value { get self.now.pairs (K.data_of key) ≡ Some result.now }
     ensures valid { IsSparseContent self.now }
 ```
+
+Words: [`contains_key`](crate::words#contains_key), [`get`](crate::words#get), [`IsSparseContent`](crate::words#issparsecontent), [`pairs`](crate::words#pairs-of-slotmap_sparse-content).
 "## };
     (slotmap_sparse SparseSecondaryMap get_unchecked_mut) => { r##"
 # Proved
@@ -3998,6 +4460,8 @@ pub fn get_unchecked_mut(&mut self, key: K) -> &mut V
     ensures value { get self.old.pairs (K.data_of key) ≡ Some result.now }
     ensures valid { IsSparseContent self.old }
 ```
+
+Words: [`contains_key`](crate::words#contains_key), [`get`](crate::words#get), [`IsSparseContent`](crate::words#issparsecontent), [`lends_value`](crate::words#lends_value-of-slotmap_sparse-lends), [`pairs`](crate::words#pairs-of-slotmap_sparse-content).
 "## };
     (slotmap_sparse SparseSecondaryMap index) => { r##"
 # Proved
@@ -4011,6 +4475,8 @@ ghost can_index = { λ m key. contains_key m.pairs (K.data_of key) ≡ true };
 
 ghost index_gives = { λ m key value. get m.pairs (K.data_of key) ≡ Some value };
 ```
+
+Words: [`contains_key`](crate::words#contains_key), [`get`](crate::words#get), [`pairs`](crate::words#pairs-of-slotmap_sparse-content).
 "## };
     (slotmap_sparse SparseSecondaryMap index_mut) => { r##"
 # Proved
@@ -4024,6 +4490,8 @@ fn index_mut(&mut self, key: K) -> &mut V
     ensures value { get self.old.pairs (K.data_of key) ≡ Some result.now }
     ensures valid { IsSparseContent self.old }
 ```
+
+Words: [`contains_key`](crate::words#contains_key), [`get`](crate::words#get), [`IsSparseContent`](crate::words#issparsecontent), [`lends_value`](crate::words#lends_value-of-slotmap_sparse-lends), [`pairs`](crate::words#pairs-of-slotmap_sparse-content).
 "## };
     (slotmap_sparse SparseSecondaryMap insert) => { r##"
 # Proved
@@ -4048,6 +4516,8 @@ pub fn insert(&mut self, key: K, value: V) -> Result<Option<V>, PutError<V>>
     ensures capacity { self.old.capacity ≤ self.new.capacity }
     ensures valid { IsSparseContent self.new }
 ```
+
+Words: [`capacity`](crate::words#capacity-of-slotmap_sparse-content), [`get`](crate::words#get), [`index`](crate::words#index), [`is_null`](crate::words#is_null), [`IsSparseContent`](crate::words#issparsecontent), [`pairs`](crate::words#pairs-of-slotmap_sparse-content), [`put`](crate::words#put), [`RefusesPut`](crate::words#refusesput).
 "## };
     (slotmap_sparse SparseSecondaryMap into_iter) => { r##"
 # Proved
@@ -4059,6 +4529,8 @@ fn into_iter(self) -> IntoIter<K, V>
 
 ghost into_iter_gives = { λ m it. IsListing (keyed m.pairs) it };
 ```
+
+Words: [`IsListing`](crate::words#islisting), [`keyed`](crate::words#keyed), [`pairs`](crate::words#pairs-of-slotmap_sparse-content).
 "## };
     (slotmap_sparse SparseSecondaryMap is_empty) => { r##"
 # Proved
@@ -4070,6 +4542,8 @@ pub fn is_empty(&self) -> bool
     ensures value { IsTrue result ↔ (map.len self.now.pairs ≡ 0) }
     ensures valid { IsSparseContent self.now }
 ```
+
+Words: [`IsSparseContent`](crate::words#issparsecontent), [`pairs`](crate::words#pairs-of-slotmap_sparse-content).
 "## };
     (slotmap_sparse SparseSecondaryMap iter) => { r##"
 # Proved
@@ -4081,6 +4555,8 @@ pub fn iter(&self) -> Iter<'_, K, V>
     ensures listing { IsListing (keyed self.now.pairs) result }
     ensures valid { IsSparseContent self.now }
 ```
+
+Words: [`IsListing`](crate::words#islisting), [`IsSparseContent`](crate::words#issparsecontent), [`keyed`](crate::words#keyed), [`pairs`](crate::words#pairs-of-slotmap_sparse-content).
 "## };
     (slotmap_sparse SparseSecondaryMap keys) => { r##"
 # Proved
@@ -4092,6 +4568,8 @@ pub fn keys(&self) -> Keys<'_, K, V>
     ensures listing { IsKeyListing (keyed self.now.pairs) result }
     ensures valid { IsSparseContent self.now }
 ```
+
+Words: [`IsKeyListing`](crate::words#iskeylisting), [`IsSparseContent`](crate::words#issparsecontent), [`keyed`](crate::words#keyed), [`pairs`](crate::words#pairs-of-slotmap_sparse-content).
 "## };
     (slotmap_sparse SparseSecondaryMap len) => { r##"
 # Proved
@@ -4103,6 +4581,8 @@ pub fn len(&self) -> usize
     ensures value { result ≡ map.len self.now.pairs }
     ensures valid { IsSparseContent self.now }
 ```
+
+Words: [`IsSparseContent`](crate::words#issparsecontent), [`pairs`](crate::words#pairs-of-slotmap_sparse-content).
 "## };
     (slotmap_sparse SparseSecondaryMap new) => { r##"
 # Proved
@@ -4115,6 +4595,8 @@ pub fn new(alloc: Global) -> Result<Self, ReserveError>
     ensures empty { IfOk result (λ made. made.pairs ≡ map.empty) }
     ensures valid { IfOk result IsSparseContent }
 ```
+
+Words: [`IsSparseContent`](crate::words#issparsecontent), [`pairs`](crate::words#pairs-of-slotmap_sparse-content).
 "## };
     (slotmap_sparse SparseSecondaryMap or_put) => { r##"
 # Proved
@@ -4134,6 +4616,8 @@ pub fn or_put(&mut self, key: K, value: V) -> OrPut<V>
     ensures capacity { self.old.capacity ≤ self.new.capacity }
     ensures valid { IsSparseContent self.new }
 ```
+
+Words: [`capacity`](crate::words#capacity-of-slotmap_sparse-content), [`index`](crate::words#index), [`is_null`](crate::words#is_null), [`IsSparseContent`](crate::words#issparsecontent), [`OrPuts`](crate::words#orputs), [`pairs`](crate::words#pairs-of-slotmap_sparse-content).
 "## };
     (slotmap_sparse SparseSecondaryMap remove) => { r##"
 # Proved
@@ -4148,6 +4632,8 @@ pub fn remove(&mut self, key: K) -> Option<V>
     ensures room { room self.old ≤ room self.new }
     ensures valid { IsSparseContent self.new }
 ```
+
+Words: [`get`](crate::words#get), [`IsSparseContent`](crate::words#issparsecontent), [`pairs`](crate::words#pairs-of-slotmap_sparse-content), [`remove`](crate::words#remove), [`room`](crate::words#room-of-slotmap_sparse-content).
 "## };
     (slotmap_sparse SparseSecondaryMap replace_disjoint) => { r##"
 # Proved
@@ -4171,6 +4657,8 @@ pub fn replace_disjoint<const N: usize>(
 
     ensures valid { IsSparseContent self.new }
 ```
+
+Words: [`AreValuesOf`](crate::words#arevaluesof-of-slotmap_core-several), [`bind`](crate::words#bind), [`CanReplace`](crate::words#canreplace-of-slotmap_core-several), [`get`](crate::words#get), [`IsSparseContent`](crate::words#issparsecontent), [`pairs`](crate::words#pairs-of-slotmap_sparse-content), [`with_values`](crate::words#with_values-of-slotmap_core-several).
 "## };
     (slotmap_sparse SparseSecondaryMap reserve) => { r##"
 # Proved
@@ -4182,6 +4670,8 @@ pub fn reserve(&mut self, additional: usize) -> Result<(), ReserveError>
     ensures makes_room { MakesSparseRoom additional self.old result self.new }
     ensures valid { IsSparseContent self.new }
 ```
+
+Words: [`IsSparseContent`](crate::words#issparsecontent), [`MakesSparseRoom`](crate::words#makessparseroom).
 "## };
     (slotmap_sparse SparseSecondaryMap retain) => { r##"
 # Proved
@@ -4199,6 +4689,8 @@ where
     ensures room { room self.old ≤ room self.new }
     ensures valid { IsSparseContent self.new }
 ```
+
+Words: [`CallableOnEach`](crate::words#callableoneach), [`IsSparseContent`](crate::words#issparsecontent), [`keyed`](crate::words#keyed), [`pairs`](crate::words#pairs-of-slotmap_sparse-content), [`RetainsBy`](crate::words#retainsby), [`room`](crate::words#room-of-slotmap_sparse-content).
 "## };
     (slotmap_sparse SparseSecondaryMap to_slots) => { r##"
 # Proved
@@ -4221,6 +4713,8 @@ where
 
     ensures valid { IsSparseContent self.now }
 ```
+
+Words: [`ClonesEqual`](crate::words#clonesequal), [`get`](crate::words#get), [`IsCloneOf`](crate::words#iscloneof), [`IsSparseContent`](crate::words#issparsecontent), [`Key`](crate::words#key), [`keyed`](crate::words#keyed), [`pairs`](crate::words#pairs-of-slotmap_sparse-content), [`start_live`](crate::words#start_live), [`WritesSparse`](crate::words#writessparse), [`WritesSparseClones`](crate::words#writessparseclones).
 "## };
     (slotmap_sparse SparseSecondaryMap try_entry) => { r##"
 # Proved
@@ -4236,6 +4730,8 @@ pub fn try_entry(&mut self, key: K) -> Result<Entry<'_, K, V, S>, NoEntry>
     ensures* unchanged { sem 𝓛 (rests_if_err K.row V.row S.row S.Hasher.row S.BuildHasher S.Hasher.Hasher self.entry result) }
     ensures valid { IsSparseContent self.old }
 ```
+
+Words: [`Enters`](crate::words#enters-of-slotmap_sparse-entry), [`entry`](crate::words#entry-of-slotmap_core-secondary), [`IsEntryOf`](crate::words#isentryof-of-slotmap_sparse-entry), [`IsSparseContent`](crate::words#issparsecontent), [`no_entry`](crate::words#no_entry), [`pairs`](crate::words#pairs-of-slotmap_sparse-content), [`rests_if_err`](crate::words#rests_if_err-of-slotmap_sparse-entry).
 "## };
     (slotmap_sparse SparseSecondaryMap try_reserve) => { r##"
 # Proved
@@ -4247,6 +4743,8 @@ pub fn try_reserve(&mut self, additional: usize) -> Result<(), ReserveError>
     ensures makes_room { MakesSparseRoom additional self.old result self.new }
     ensures valid { IsSparseContent self.new }
 ```
+
+Words: [`IsSparseContent`](crate::words#issparsecontent), [`MakesSparseRoom`](crate::words#makessparseroom).
 "## };
     (slotmap_sparse SparseSecondaryMap values) => { r##"
 # Proved
@@ -4258,6 +4756,8 @@ pub fn values(&self) -> Values<'_, K, V>
     ensures listing { IsValueListing (keyed self.now.pairs) result }
     ensures valid { IsSparseContent self.now }
 ```
+
+Words: [`IsSparseContent`](crate::words#issparsecontent), [`IsValueListing`](crate::words#isvaluelisting), [`keyed`](crate::words#keyed), [`pairs`](crate::words#pairs-of-slotmap_sparse-content).
 "## };
     (slotmap_sparse SparseSecondaryMap with_capacity) => { r##"
 # Proved
@@ -4272,6 +4772,8 @@ pub fn with_capacity(alloc: Global, capacity: usize) -> Result<Self, ReserveErro
     ensures err { IfErr result (RefusesRoom capacity) }
     ensures valid { IfOk result IsSparseContent }
 ```
+
+Words: [`capacity`](crate::words#capacity-of-slotmap_sparse-content), [`IsSparseContent`](crate::words#issparsecontent), [`most_keys`](crate::words#most_keys), [`pairs`](crate::words#pairs-of-slotmap_sparse-content), [`RefusesRoom`](crate::words#refusesroom).
 "## };
     (slotmap_sparse SparseSecondaryMap with_capacity_and_hasher) => { r##"
 # Proved
@@ -4290,6 +4792,8 @@ pub fn with_capacity_and_hasher(
     ensures err { IfErr result (RefusesRoom capacity) }
     ensures valid { IfOk result IsSparseContent }
 ```
+
+Words: [`capacity`](crate::words#capacity-of-slotmap_sparse-content), [`IsSparseContent`](crate::words#issparsecontent), [`most_keys`](crate::words#most_keys), [`pairs`](crate::words#pairs-of-slotmap_sparse-content), [`RefusesRoom`](crate::words#refusesroom).
 "## };
     (slotmap_sparse SparseSecondaryMap with_hasher) => { r##"
 # Proved
@@ -4302,6 +4806,8 @@ pub fn with_hasher(alloc: Global, hash_builder: S) -> Result<Self, ReserveError>
     ensures empty { IfOk result (λ made. made.pairs ≡ map.empty) }
     ensures valid { IfOk result IsSparseContent }
 ```
+
+Words: [`IsSparseContent`](crate::words#issparsecontent), [`pairs`](crate::words#pairs-of-slotmap_sparse-content).
 "## };
     (slotmap_sparse VacantEntry insert) => { r##"
 # Proved
@@ -4316,6 +4822,8 @@ pub fn insert(self, value: V) -> Result<&'a mut V, PutError<V>>
     ensures err { IfErr result (λ error. error.0 ≡ value) }
     ensures room { map.len (sparse_entry_map (Vacant self.entry)).pairs < (sparse_entry_map (Vacant self.entry)).capacity → IsOk result }
 ```
+
+Words: [`capacity`](crate::words#capacity-of-slotmap_sparse-content), [`entry_lends_ok`](crate::words#entry_lends_ok), [`IsSparseInPlace`](crate::words#issparseinplace), [`pairs`](crate::words#pairs-of-slotmap_sparse-content), [`room`](crate::words#room-of-slotmap_sparse-content), [`sparse_entry_map`](crate::words#sparse_entry_map).
 "## };
     (slotmap_sparse VacantEntry key) => { r##"
 # Proved
@@ -4326,6 +4834,8 @@ What is proved of the call that this one makes:
 pub fn key(&self) -> K
     ensures { result ≡ sparse_entry_key (Vacant self.now) }
 ```
+
+Words: [`sparse_entry_key`](crate::words#sparse_entry_key).
 "## };
     (slotmap_sparse Values clone) => { r##"
 # Proved

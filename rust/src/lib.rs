@@ -20,6 +20,7 @@ pub mod rt;
 
 mod key;
 mod maps;
+pub mod words;
 #[cfg(feature = "serde")]
 mod serialize;
 

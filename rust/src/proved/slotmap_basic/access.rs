@@ -36,6 +36,8 @@ impl<K: Key, V: Sized> SlotMap<K, V> {
     /// ensures value { result ≡ map.contains_key self.now.live (K.data_of key) }
     /// ensures valid { IsContent true self.now }
     /// ```
+    ///
+    /// Words: [`IsContent`](crate::words#iscontent), [`live`](crate::words#live).
     #[inline]
     pub fn contains_key(&self, key: K) -> bool
     {
@@ -67,6 +69,8 @@ impl<K: Key, V: Sized> SlotMap<K, V> {
     /// ensures value { option_copied result ≡ map.get self.now.live (K.data_of key) }
     /// ensures valid { IsContent true self.now }
     /// ```
+    ///
+    /// Words: [`IsContent`](crate::words#iscontent), [`live`](crate::words#live).
     #[inline]
     pub fn get(&self, key: K) -> Option<&V>
     {
@@ -98,6 +102,8 @@ impl<K: Key, V: Sized> SlotMap<K, V> {
     /// ensures value { map.get self.now.live (K.data_of key) ≡ Some result.now }
     /// ensures valid { IsContent true self.now }
     /// ```
+    ///
+    /// Words: [`IsContent`](crate::words#iscontent), [`IsLive`](crate::words#islive), [`live`](crate::words#live).
     #[inline]
     pub fn get_unchecked(&self, key: K) -> &V
     {
@@ -133,6 +139,8 @@ impl<K: Key, V: Sized> SlotMap<K, V> {
     /// ensures value { option_copied_mut result ≡ map.get self.old.live (K.data_of key) }
     /// ensures valid { IsContent true self.old }
     /// ```
+    ///
+    /// Words: [`IsContent`](crate::words#iscontent), [`lends_get`](crate::words#lends_get-of-slotmap_basic-lends), [`live`](crate::words#live).
     #[inline]
     pub fn get_mut(&mut self, key: K) -> Option<&mut V>
     {
@@ -170,6 +178,8 @@ impl<K: Key, V: Sized> SlotMap<K, V> {
     /// ensures value { map.get self.old.live (K.data_of key) ≡ Some result.now }
     /// ensures valid { IsContent true self.old }
     /// ```
+    ///
+    /// Words: [`IsContent`](crate::words#iscontent), [`IsLive`](crate::words#islive), [`lends_value`](crate::words#lends_value-of-slotmap_basic-lends), [`live`](crate::words#live).
     #[inline]
     pub fn get_unchecked_mut(&mut self, key: K) -> &mut V
     {
@@ -206,6 +216,8 @@ impl<K: Key, V: Sized> SlotMap<K, V> {
     /// ensures unchanged { OnErr result (self.new ≡ self.old) }
     /// ensures valid { StaysValid true self.old self.new }
     /// ```
+    ///
+    /// Words: [`IsLive`](crate::words#islive), [`live`](crate::words#live), [`StaysValid`](crate::words#staysvalid), [`with_value`](crate::words#with_value-of-slotmap_core-transition).
     #[inline]
     pub fn replace(&mut self, key: K, value: V) -> Result<V, V>
     {
@@ -248,6 +260,8 @@ impl<K: Key, V: Sized> SlotMap<K, V> {
     /// ensures unchanged { OnErr result (self.new ≡ self.old) }
     /// ensures valid { StaysValid true self.old self.new }
     /// ```
+    ///
+    /// Words: [`AreValuesOf`](crate::words#arevaluesof-of-slotmap_core-disjoint), [`CanReplace`](crate::words#canreplace-of-slotmap_core-disjoint), [`StaysValid`](crate::words#staysvalid), [`with_values`](crate::words#with_values-of-slotmap_core-disjoint).
     #[inline]
     pub fn replace_disjoint<const N: usize>(
         &mut self,
@@ -339,6 +353,8 @@ impl<K: Key, V: Sized> IndexMut<K> for SlotMap<K, V> {
     /// ensures value { map.get self.old.live (K.data_of key) ≡ Some result.now }
     /// ensures valid { IsContent true self.old }
     /// ```
+    ///
+    /// Words: [`IsContent`](crate::words#iscontent), [`IsLive`](crate::words#islive), [`lends_value`](crate::words#lends_value-of-slotmap_basic-lends), [`live`](crate::words#live).
     #[inline]
     fn index_mut(&mut self, key: K) -> &mut V
     {

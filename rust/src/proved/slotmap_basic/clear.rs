@@ -36,6 +36,8 @@ impl<K: Key, V: Sized> SlotMap<K, V> {
     /// ensures freed_order { FreesByIndex self.old self.new }
     /// ensures valid { StaysValid true self.old self.new }
     /// ```
+    ///
+    /// Words: [`FreesByIndex`](crate::words#freesbyindex), [`Leaves`](crate::words#leaves), [`live`](crate::words#live), [`StaysValid`](crate::words#staysvalid).
     #[inline]
     pub fn clear(&mut self)
     {
@@ -71,6 +73,8 @@ impl<K: Key, V: Sized> SlotMap<K, V> {
     /// ensures unchanged { OnErr result (out.new.items ≡ out.old.items) }
     /// ensures valid { IsContent true self.now }
     /// ```
+    ///
+    /// Words: [`IsContent`](crate::words#iscontent), [`live`](crate::words#live).
     #[inline]
     pub fn keys_into(&self, out: &mut Vec<K>) -> Result<(), OutOfMemory>
     {
@@ -115,6 +119,8 @@ impl<K: Key, V: Sized> SlotMap<K, V> {
     /// ensures unchanged { OnErr result ((self.new ≡ self.old) × (out.new.items ≡ out.old.items)) }
     /// ensures valid { StaysValid true self.old self.new }
     /// ```
+    ///
+    /// Words: [`FreesByIndex`](crate::words#freesbyindex), [`Leaves`](crate::words#leaves), [`live`](crate::words#live), [`StaysValid`](crate::words#staysvalid).
     #[inline]
     pub fn drain_into(&mut self, out: &mut Vec<(K, V)>) -> Result<(), OutOfMemory>
     {

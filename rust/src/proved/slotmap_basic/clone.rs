@@ -42,6 +42,8 @@ impl<K: Key, V: Clone> SlotMap<K, V> {
     /// ensures copies_if_clones_equal { IfOk result (λ copy. ClonesEqual V.is_clone → IsCopy self.now copy) }
     /// ensures valid { IfOk result (IsContent true) }
     /// ```
+    ///
+    /// Words: [`ClonesEqual`](crate::words#clonesequal), [`IsCloneBy`](crate::words#iscloneby), [`IsContent`](crate::words#iscontent), [`IsCopy`](crate::words#iscopy).
     #[inline]
     pub fn clone(&self) -> Result<Self, AllocError>
     {
@@ -78,6 +80,8 @@ impl<K: Key, V: Clone> SlotMap<K, V> {
     /// ensures unchanged { OnErr result (self.new ≡ self.old) }
     /// ensures valid { OnOk result (IsContent true self.new) }
     /// ```
+    ///
+    /// Words: [`ClonesEqual`](crate::words#clonesequal), [`IsCloneBy`](crate::words#iscloneby), [`IsContent`](crate::words#iscontent), [`IsCopy`](crate::words#iscopy).
     #[inline]
     pub fn clone_from(&mut self, source: &Self) -> Result<(), AllocError>
     where

@@ -40,6 +40,8 @@ impl<K: Key, V: Sized> SlotMap<K, V> {
     /// ensures live { self.new.live ≡ map.remove self.old.live (K.data_of key) }
     /// ensures valid { StaysValid true self.old self.new }
     /// ```
+    ///
+    /// Words: [`Detaches`](crate::words#detaches), [`live`](crate::words#live), [`StaysValid`](crate::words#staysvalid).
     #[inline]
     pub fn detach(&mut self, key: K) -> Option<V>
     {
@@ -76,6 +78,8 @@ impl<K: Key, V: Sized> SlotMap<K, V> {
     /// ensures unchanged { OnErr result (self.new ≡ self.old) }
     /// ensures valid { StaysValid true self.old self.new }
     /// ```
+    ///
+    /// Words: [`IsDetached`](crate::words#isdetached), [`Reattaches`](crate::words#reattaches), [`StaysValid`](crate::words#staysvalid).
     #[inline]
     pub fn reattach(&mut self, key: K, value: V) -> Result<(), ReattachError<V>>
     {

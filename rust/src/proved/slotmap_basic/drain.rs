@@ -105,6 +105,8 @@ impl<K: Key, V: Sized> SlotMap<K, V> {
     ///
     /// ensures valid { IsContent true self.old }
     /// ```
+    ///
+    /// Words: [`drain_live`](crate::words#drain_live), [`drain_loan`](crate::words#drain_loan-of-slotmap_basic-drain), [`DrainCanStep`](crate::words#draincanstep), [`DrainSteps`](crate::words#drainsteps-of-slotmap_basic-drain), [`EmptiesByIndex`](crate::words#emptiesbyindex), [`InOrderAlong`](crate::words#inorderalong), [`IsContent`](crate::words#iscontent), [`KeepsAlong`](crate::words#keepsalong), [`KeepsLoan`](crate::words#keepsloan), [`ListsAlong`](crate::words#listsalong).
     #[inline]
     pub fn drain(&mut self) -> Drain<'_, K, V>
     {

@@ -64,6 +64,8 @@ impl<K: Key, V: Sized> SlotMap<K, V> {
     ///
     /// ensures valid { MayGrow true self.old (IsErr result) self.new }
     /// ```
+    ///
+    /// Words: [`HasVacant`](crate::words#hasvacant), [`Inserts`](crate::words#inserts), [`MayGrow`](crate::words#maygrow), [`Refuses`](crate::words#refuses).
     #[inline(always)]
     pub fn insert(&mut self, value: V) -> Result<K, InsertError<V>>
     {
@@ -112,6 +114,8 @@ impl<K: Key, V: Sized> SlotMap<K, V> {
     ///
     /// ensures valid { MayGrow true self.old (IsErr result) self.new }
     /// ```
+    ///
+    /// Words: [`HasVacant`](crate::words#hasvacant), [`Inserts`](crate::words#inserts), [`MayGrow`](crate::words#maygrow), [`most`](crate::words#most), [`offer`](crate::words#offer), [`RefusesInsert`](crate::words#refusesinsert), [`used`](crate::words#used).
     #[inline]
     pub fn insert_with_key<F: FnOnce(K) -> V>(&mut self, f: F) -> Result<K, InsertWithError>
     where
@@ -158,6 +162,8 @@ impl<K: Key, V: Sized> SlotMap<K, V> {
     ///
     /// ensures valid { MayGrow true self.old (IsErr result) self.new }
     /// ```
+    ///
+    /// Words: [`Inserts`](crate::words#inserts), [`MayGrow`](crate::words#maygrow), [`most`](crate::words#most), [`next`](crate::words#next), [`offer`](crate::words#offer), [`RefusesWith`](crate::words#refuseswith), [`used`](crate::words#used).
     #[inline]
     pub fn try_insert_with_key<F, E>(&mut self, f: F) -> Result<K, TryInsertError<E>>
     where

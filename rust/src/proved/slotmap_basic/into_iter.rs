@@ -103,6 +103,8 @@ impl<K, V: Clone> IntoIter<K, V> {
     /// ensures clones { IfOk result (AreClones V.is_clone self.now) }
     /// ensures copies_if_clones_equal { IfOk result (λ copy. ClonesEqual V.is_clone → copy ≡ self.now) }
     /// ```
+    ///
+    /// Words: [`AreClones`](crate::words#areclones), [`ClonesEqual`](crate::words#clonesequal).
     #[inline]
     pub fn clone(&self) -> Result<Self, AllocError>
     {

@@ -306,6 +306,8 @@ impl<K: Key, V> SlotMap<K, V> {
     /// ensures in_order { result ≡ map.entries self.now.live }
     /// ensures valid { IsContent true self.now }
     /// ```
+    ///
+    /// Words: [`IsContent`](crate::words#iscontent), [`IsListing`](crate::words#islisting), [`live`](crate::words#live).
     #[inline]
     pub fn iter(&self) -> Iter<'_, K, V>
     {
@@ -349,6 +351,8 @@ impl<K: Key, V> SlotMap<K, V> {
     /// ensures in_order { result ≡ map.keys self.now.live }
     /// ensures valid { IsContent true self.now }
     /// ```
+    ///
+    /// Words: [`IsContent`](crate::words#iscontent), [`IsKeyListing`](crate::words#iskeylisting), [`live`](crate::words#live).
     #[inline]
     pub fn keys(&self) -> Keys<'_, K, V>
     {
@@ -382,6 +386,8 @@ impl<K: Key, V> SlotMap<K, V> {
     /// ensures in_order { result ≡ map.values self.now.live }
     /// ensures valid { IsContent true self.now }
     /// ```
+    ///
+    /// Words: [`IsContent`](crate::words#iscontent), [`IsValueListing`](crate::words#isvaluelisting), [`live`](crate::words#live).
     #[inline]
     pub fn values(&self) -> Values<'_, K, V>
     {

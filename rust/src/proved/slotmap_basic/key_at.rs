@@ -37,6 +37,8 @@ impl<K: Key, V: Sized> SlotMap<K, V> {
     /// ensures none { IfNone result ((other : KeyOf) → IsLive self.now other → other.index ≢ index) }
     /// ensures valid { IsContent true self.now }
     /// ```
+    ///
+    /// Words: [`index`](crate::words#index), [`IsContent`](crate::words#iscontent), [`IsLive`](crate::words#islive), [`Key`](crate::words#key).
     #[inline]
     pub fn key_at(&self, index: u32) -> Option<K>
     {

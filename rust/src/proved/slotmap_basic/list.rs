@@ -50,6 +50,8 @@ impl<K: Key, V: Sized> SlotMap<K, V> {
     ///
     /// ensures valid { IsContent true self.now }
     /// ```
+    ///
+    /// Words: [`ClonesEqual`](crate::words#clonesequal), [`IsCloneOf`](crate::words#iscloneof), [`IsContent`](crate::words#iscontent), [`Key`](crate::words#key), [`live`](crate::words#live), [`start_live`](crate::words#start_live), [`Writes`](crate::words#writes), [`WritesClones`](crate::words#writesclones).
     #[inline]
     pub fn to_slots(&self) -> Result<Vec<SlotRecord<V>>, OutOfMemory>
     where
@@ -112,6 +114,8 @@ impl<K: Key, V: Sized> SlotMap<K, V> {
     /// ensures accepted { IsOk result → Accepts list.items list_limit }
     /// ensures err { IfErr result (RefusesStart list.items list_limit) }
     /// ```
+    ///
+    /// Words: [`Accepts`](crate::words#accepts), [`list_limit`](crate::words#list_limit), [`ReadsAs`](crate::words#readsas), [`RefusesStart`](crate::words#refusesstart), [`stack`](crate::words#stack), [`start_stack`](crate::words#start_stack).
     #[inline]
     pub fn from_slots(alloc: Global, list: Vec<SlotRecord<V>>) -> Result<Self, SlotsError>
     {

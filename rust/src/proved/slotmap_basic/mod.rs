@@ -121,6 +121,8 @@ impl<V: Sized> SlotMap<DefaultKey, V> {
     /// ensures err { IfErr result (λ error. error ≡ ReserveError.Memory) }
     /// ensures valid { IfOk result (IsContent true) }
     /// ```
+    ///
+    /// Words: [`IsContent`](crate::words#iscontent), [`IsNew`](crate::words#isnew), [`stack`](crate::words#stack).
     #[inline]
     pub fn new(alloc: Global) -> Result<Self, ReserveError>
     {
@@ -157,6 +159,8 @@ impl<V: Sized> SlotMap<DefaultKey, V> {
     /// ensures err { IfErr result (RefusesCapacity capacity) }
     /// ensures valid { IfOk result (IsContent true) }
     /// ```
+    ///
+    /// Words: [`capacity`](crate::words#capacity-of-slotmap_core-content), [`IsContent`](crate::words#iscontent), [`IsNew`](crate::words#isnew), [`RefusesCapacity`](crate::words#refusescapacity), [`room`](crate::words#room-of-slotmap_core-content), [`stack`](crate::words#stack).
     #[inline]
     pub fn with_capacity(alloc: Global, capacity: usize) -> Result<Self, ReserveError>
     {
@@ -193,6 +197,8 @@ impl<K: Key, V: Sized> SlotMap<K, V> {
     /// ensures err { IfErr result (λ error. error ≡ ReserveError.Memory) }
     /// ensures valid { IfOk result (IsContent true) }
     /// ```
+    ///
+    /// Words: [`IsContent`](crate::words#iscontent), [`IsNew`](crate::words#isnew), [`stack`](crate::words#stack).
     #[inline]
     pub fn with_key(alloc: Global) -> Result<Self, ReserveError>
     {
@@ -228,6 +234,8 @@ impl<K: Key, V: Sized> SlotMap<K, V> {
     /// ensures err { IfErr result (RefusesCapacity capacity) }
     /// ensures valid { IfOk result (IsContent true) }
     /// ```
+    ///
+    /// Words: [`capacity`](crate::words#capacity-of-slotmap_core-content), [`IsContent`](crate::words#iscontent), [`IsNew`](crate::words#isnew), [`RefusesCapacity`](crate::words#refusescapacity), [`room`](crate::words#room-of-slotmap_core-content), [`stack`](crate::words#stack).
     #[inline]
     pub fn with_capacity_and_key(alloc: Global, capacity: usize) -> Result<Self, ReserveError>
     {
@@ -259,6 +267,8 @@ impl<K: Key, V: Sized> SlotMap<K, V> {
     /// ensures value { result ≡ map.len self.now.live }
     /// ensures valid { IsContent true self.now }
     /// ```
+    ///
+    /// Words: [`IsContent`](crate::words#iscontent), [`live`](crate::words#live).
     #[inline]
     pub fn len(&self) -> usize
     {
@@ -290,6 +300,8 @@ impl<K: Key, V: Sized> SlotMap<K, V> {
     /// ensures value { IsTrue result ↔ (map.len self.now.live ≡ 0) }
     /// ensures valid { IsContent true self.now }
     /// ```
+    ///
+    /// Words: [`IsContent`](crate::words#iscontent), [`live`](crate::words#live).
     #[inline]
     pub fn is_empty(&self) -> bool
     {
@@ -323,6 +335,8 @@ impl<K: Key, V: Sized> SlotMap<K, V> {
     /// ensures places { places self.now ≤ result }
     /// ensures valid { IsContent true self.now }
     /// ```
+    ///
+    /// Words: [`capacity`](crate::words#capacity-of-slotmap_core-content), [`IsContent`](crate::words#iscontent), [`places`](crate::words#places-of-slotmap_core-content).
     #[inline]
     pub fn capacity(&self) -> usize
     {
@@ -367,6 +381,8 @@ impl<K: Key, V: Sized> SlotMap<K, V> {
     /// ensures err { IfErr result (RefusesCapacity (used self.old + additional)) }
     /// ensures reuses { additional ≤ map.len self.old.next → IsOk result }
     /// ```
+    ///
+    /// Words: [`MakesRoom`](crate::words#makesroom), [`next`](crate::words#next), [`RefusesCapacity`](crate::words#refusescapacity), [`used`](crate::words#used).
     #[inline]
     pub fn reserve(&mut self, additional: usize) -> Result<(), ReserveError>
     {
@@ -399,6 +415,8 @@ impl<K: Key, V: Sized> SlotMap<K, V> {
     /// ensures err { IfErr result (RefusesCapacity (used self.old + additional)) }
     /// ensures reuses { additional ≤ map.len self.old.next → IsOk result }
     /// ```
+    ///
+    /// Words: [`MakesRoom`](crate::words#makesroom), [`next`](crate::words#next), [`RefusesCapacity`](crate::words#refusescapacity), [`used`](crate::words#used).
     #[inline]
     pub fn try_reserve(&mut self, additional: usize) -> Result<(), ReserveError>
     {

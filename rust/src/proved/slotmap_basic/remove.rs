@@ -37,6 +37,8 @@ impl<K: Key, V: Sized> SlotMap<K, V> {
     /// ensures live { self.new.live ≡ map.remove self.old.live (K.data_of key) }
     /// ensures valid { StaysValid true self.old self.new }
     /// ```
+    ///
+    /// Words: [`live`](crate::words#live), [`Removes`](crate::words#removes), [`StaysValid`](crate::words#staysvalid).
     #[inline]
     pub fn remove(&mut self, key: K) -> Option<V>
     {

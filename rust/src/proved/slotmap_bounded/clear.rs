@@ -27,6 +27,8 @@ impl<K: Key, V: Sized> BoundedMap<K, V> {
     /// ensures bound { bound self.new ≡ bound self.old }
     /// ensures valid { StaysValid true self.old self.new }
     /// ```
+    ///
+    /// Words: [`bound`](crate::words#bound), [`Leaves`](crate::words#leaves), [`live`](crate::words#live), [`StaysValid`](crate::words#staysvalid).
     #[inline]
     pub fn clear(&mut self)
     {

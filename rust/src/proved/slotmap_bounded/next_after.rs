@@ -31,6 +31,8 @@ impl<K: Key, V: Sized> BoundedMap<K, V> {
     /// ensures none { IfNone result ((other : KeyOf) → IsLive self.now other → other.index < index_after K.data_of key) }
     /// ensures valid { IsContent true self.now }
     /// ```
+    ///
+    /// Words: [`index`](crate::words#index), [`index_after`](crate::words#index_after), [`IsContent`](crate::words#iscontent), [`IsLive`](crate::words#islive), [`Key`](crate::words#key).
     #[inline]
     pub fn next_after(&self, key: Option<K>) -> Option<K>
     {

@@ -201,6 +201,8 @@ impl<V> InsertError<V> {
     /// ```text
     /// ensures { result ≡ uninserted self }
     /// ```
+    ///
+    /// Words: [`uninserted`](crate::words#uninserted).
     #[inline]
     pub fn into_inner(self) -> V
     {
@@ -231,6 +233,8 @@ impl<V> InsertError<V> {
     /// requires { F.pre f (uninserted self) }
     /// ensures { (w : W) × F.post f (uninserted self) w × (result ≡ with_uninserted self w) }
     /// ```
+    ///
+    /// Words: [`uninserted`](crate::words#uninserted), [`with_uninserted`](crate::words#with_uninserted).
     #[inline]
     pub fn map<W, F: FnOnce(V) -> W>(self, f: F) -> InsertError<W>
     {
@@ -260,6 +264,8 @@ impl<V> ReattachError<V> {
     /// ```text
     /// ensures { result ≡ unattached self }
     /// ```
+    ///
+    /// Words: [`unattached`](crate::words#unattached).
     #[inline]
     pub fn into_inner(self) -> V
     {
@@ -289,6 +295,8 @@ impl<V> ReattachError<V> {
     /// requires { F.pre f (unattached self) }
     /// ensures { (w : W) × F.post f (unattached self) w × (result ≡ with_unattached self w) }
     /// ```
+    ///
+    /// Words: [`unattached`](crate::words#unattached), [`with_unattached`](crate::words#with_unattached).
     #[inline]
     pub fn map<W, F: FnOnce(V) -> W>(self, f: F) -> ReattachError<W>
     {

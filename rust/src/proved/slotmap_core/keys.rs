@@ -62,6 +62,8 @@ impl KeyData {
     /// ensures value { result ≡ key_from idx version }
     /// ensures valid { IsKey result }
     /// ```
+    ///
+    /// Words: [`IsKey`](crate::words#iskey), [`key_from`](crate::words#key_from).
     #[inline]
     pub fn new(idx: u32, version: u32) -> KeyData
     {
@@ -95,6 +97,8 @@ impl KeyData {
     /// requires { IsKey (record { index = idx; version = version }) }
     /// ensures { result ≡ record { index = idx; version = version } }
     /// ```
+    ///
+    /// Words: [`IsKey`](crate::words#iskey).
     #[inline]
     pub fn exact(idx: u32, version: u32) -> KeyData
     {
@@ -121,6 +125,8 @@ impl KeyData {
     /// ensures value { result ≡ self.index }
     /// ensures valid { IsKey self }
     /// ```
+    ///
+    /// Words: [`index`](crate::words#index), [`IsKey`](crate::words#iskey).
     #[inline]
     pub fn idx(self) -> u32
     {
@@ -147,6 +153,8 @@ impl KeyData {
     /// ensures value { result ≡ self.version }
     /// ensures valid { IsKey self }
     /// ```
+    ///
+    /// Words: [`IsKey`](crate::words#iskey), [`version`](crate::words#version).
     #[inline]
     pub fn version(self) -> u32
     {
@@ -174,6 +182,8 @@ impl KeyData {
     /// ensures value { result ≡ ffi self }
     /// ensures valid { IsKey self }
     /// ```
+    ///
+    /// Words: [`ffi`](crate::words#ffi), [`IsKey`](crate::words#iskey).
     #[inline]
     pub fn as_ffi(self) -> u64
     {
@@ -203,6 +213,8 @@ impl KeyData {
     /// ensures round_trip { (k : KeyOf) → IsKey k → value ≡ ffi k → result ≡ k }
     /// ensures valid { IsKey result }
     /// ```
+    ///
+    /// Words: [`ffi`](crate::words#ffi), [`IsKey`](crate::words#iskey), [`Key`](crate::words#key), [`key_from`](crate::words#key_from).
     #[inline]
     pub fn from_ffi(value: u64) -> KeyData
     {
@@ -231,6 +243,8 @@ impl KeyData {
 /// ```text
 /// ensures { result ≡ is_older a b }
 /// ```
+///
+/// Words: [`is_older`](crate::words#is_older).
 #[inline]
 pub fn is_older_version(a: u32, b: u32) -> bool
 {
@@ -312,6 +326,8 @@ pub trait Key: From<KeyData> + Copy + Default + Eq + Ord + Hash + fmt::Debug {
     /// ```text
     /// ensures { data_of result ≡ null_key }
     /// ```
+    ///
+    /// Words: [`null_key`](crate::words#null_key).
     fn null() -> Self;
 
     /// Returns whether this is the null key.
@@ -333,6 +349,8 @@ pub trait Key: From<KeyData> + Copy + Default + Eq + Ord + Hash + fmt::Debug {
     /// ```text
     /// ensures { IsTrue result ↔ data_of self.now ≡ null_key }
     /// ```
+    ///
+    /// Words: [`null_key`](crate::words#null_key).
     fn is_null(&self) -> bool;
 
     /// Returns the data of this key, of which `from` makes the key again.
@@ -356,6 +374,8 @@ pub trait Key: From<KeyData> + Copy + Default + Eq + Ord + Hash + fmt::Debug {
     /// ensures value { result ≡ data_of self.now }
     /// ensures valid { IsKey result }
     /// ```
+    ///
+    /// Words: [`IsKey`](crate::words#iskey).
     fn data(&self) -> KeyData;
 }
 

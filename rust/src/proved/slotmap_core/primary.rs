@@ -67,6 +67,8 @@ pub trait Primary<K: Key, V>: Sized {
     /// ensures err { IfErr result (RefusesCapacity 0) }
     /// ensures valid { IfOk result (λ m. IsContent REUSES (content m)) }
     /// ```
+    ///
+    /// Words: [`IsContent`](crate::words#iscontent), [`IsNew`](crate::words#isnew), [`RefusesCapacity`](crate::words#refusescapacity), [`stack`](crate::words#stack).
     fn with_key(alloc: Global) -> Result<Self, ReserveError>;
 
     /// Makes an empty map with room for `capacity` keys.
@@ -96,6 +98,8 @@ pub trait Primary<K: Key, V>: Sized {
     /// ensures err { IfErr result (RefusesCapacity capacity) }
     /// ensures valid { IfOk result (λ m. IsContent REUSES (content m)) }
     /// ```
+    ///
+    /// Words: [`capacity`](crate::words#capacity-of-slotmap_core-content), [`IsContent`](crate::words#iscontent), [`IsNew`](crate::words#isnew), [`RefusesCapacity`](crate::words#refusescapacity), [`room`](crate::words#room-of-slotmap_core-content), [`stack`](crate::words#stack).
     fn with_capacity_and_key(alloc: Global, capacity: usize) -> Result<Self, ReserveError>;
 
     /// Returns the number of live keys.
@@ -118,6 +122,8 @@ pub trait Primary<K: Key, V>: Sized {
     /// ensures value { result ≡ map.len (content self.now).live }
     /// ensures valid { IsContent REUSES (content self.now) }
     /// ```
+    ///
+    /// Words: [`IsContent`](crate::words#iscontent), [`live`](crate::words#live).
     fn len(&self) -> usize;
 
     /// Returns whether no key is live.
@@ -139,6 +145,8 @@ pub trait Primary<K: Key, V>: Sized {
     /// ensures value { IsTrue result ↔ map.len (content self.now).live ≡ 0 }
     /// ensures valid { IsContent REUSES (content self.now) }
     /// ```
+    ///
+    /// Words: [`IsContent`](crate::words#iscontent), [`live`](crate::words#live).
     fn is_empty(&self) -> bool;
 
     /// Returns for how many keys memory is allocated.
@@ -163,6 +171,8 @@ pub trait Primary<K: Key, V>: Sized {
     /// ensures value { result ≡ (content self.now).capacity }
     /// ensures valid { IsContent REUSES (content self.now) }
     /// ```
+    ///
+    /// Words: [`capacity`](crate::words#capacity-of-slotmap_core-content), [`IsContent`](crate::words#iscontent).
     fn capacity(&self) -> usize;
 
     /// Returns whether this key is live.
@@ -188,6 +198,8 @@ pub trait Primary<K: Key, V>: Sized {
     /// ensures value { result ≡ map.contains_key (content self.now).live (K.data_of key) }
     /// ensures valid { IsContent REUSES (content self.now) }
     /// ```
+    ///
+    /// Words: [`IsContent`](crate::words#iscontent), [`live`](crate::words#live).
     fn contains_key(&self, key: K) -> bool;
 
     /// Returns the value of a live key, or `None` if the key isn't live.
@@ -211,6 +223,8 @@ pub trait Primary<K: Key, V>: Sized {
     /// ensures value { option_copied result ≡ map.get (content self.now).live (K.data_of key) }
     /// ensures valid { IsContent REUSES (content self.now) }
     /// ```
+    ///
+    /// Words: [`IsContent`](crate::words#iscontent), [`live`](crate::words#live).
     fn get(&self, key: K) -> Option<&V>;
 
     /// Inserts a value and returns its new key.
@@ -243,6 +257,8 @@ pub trait Primary<K: Key, V>: Sized {
     ///
     /// ensures valid { MayGrow REUSES (content self.old) (IsErr result) (content self.new) }
     /// ```
+    ///
+    /// Words: [`HasVacant`](crate::words#hasvacant), [`Inserts`](crate::words#inserts), [`MayGrow`](crate::words#maygrow), [`Refuses`](crate::words#refuses).
     fn insert(&mut self, value: V) -> Result<K, InsertError<V>>;
 
     /// Removes a live key and returns its value, or `None` if the key isn't live.
@@ -273,6 +289,8 @@ pub trait Primary<K: Key, V>: Sized {
     /// ensures live { (content self.new).live ≡ map.remove (content self.old).live (K.data_of key) }
     /// ensures valid { StaysValid REUSES (content self.old) (content self.new) }
     /// ```
+    ///
+    /// Words: [`live`](crate::words#live), [`Removes`](crate::words#removes), [`StaysValid`](crate::words#staysvalid).
     fn remove(&mut self, key: K) -> Option<V>;
 
     /// Inserts the value that a closure returns for the new key, and returns the key.
@@ -313,6 +331,8 @@ pub trait Primary<K: Key, V>: Sized {
     ///
     /// ensures valid { MayGrow REUSES (content self.old) (IsErr result) (content self.new) }
     /// ```
+    ///
+    /// Words: [`HasVacant`](crate::words#hasvacant), [`Inserts`](crate::words#inserts), [`MayGrow`](crate::words#maygrow), [`most`](crate::words#most), [`offer`](crate::words#offer), [`RefusesWith`](crate::words#refuseswith), [`used`](crate::words#used).
     fn try_insert_with_key<E, F: FnOnce(K) -> Result<V, E>>(
         &mut self,
         f: F,
@@ -352,6 +372,8 @@ pub trait Primary<K: Key, V>: Sized {
     ///
     /// ensures valid { MayGrow REUSES (content self.old) (IsErr result) (content self.new) }
     /// ```
+    ///
+    /// Words: [`HasVacant`](crate::words#hasvacant), [`Inserts`](crate::words#inserts), [`MayGrow`](crate::words#maygrow), [`most`](crate::words#most), [`offer`](crate::words#offer), [`RefusesInsert`](crate::words#refusesinsert), [`used`](crate::words#used).
     fn insert_with_key<F: FnOnce(K) -> V>(&mut self, f: F) -> Result<K, InsertWithError>
     where
         F: Sized,;
@@ -386,6 +408,8 @@ pub trait Primary<K: Key, V>: Sized {
     /// ensures unchanged { OnErr result (content self.new ≡ content self.old) }
     /// ensures valid { StaysValid REUSES (content self.old) (content self.new) }
     /// ```
+    ///
+    /// Words: [`live`](crate::words#live), [`StaysValid`](crate::words#staysvalid), [`with_value`](crate::words#with_value-of-slotmap_core-transition).
     fn replace(&mut self, key: K, value: V) -> Result<V, V>;
 
     /// Reserves room for `additional` more keys.
@@ -416,6 +440,8 @@ pub trait Primary<K: Key, V>: Sized {
     /// ensures reuses { REUSES ≡ true →
     ///     additional ≤ map.len (content self.old).next → IsOk result }
     /// ```
+    ///
+    /// Words: [`MakesRoom`](crate::words#makesroom), [`next`](crate::words#next), [`RefusesCapacity`](crate::words#refusescapacity), [`used`](crate::words#used).
     fn reserve(&mut self, additional: usize) -> Result<(), ReserveError>;
 
     /// Reserves room for `additional` more keys, as `reserve` does.
@@ -441,6 +467,8 @@ pub trait Primary<K: Key, V>: Sized {
     /// ensures reuses { REUSES ≡ true →
     ///     additional ≤ map.len (content self.old).next → IsOk result }
     /// ```
+    ///
+    /// Words: [`MakesRoom`](crate::words#makesroom), [`next`](crate::words#next), [`RefusesCapacity`](crate::words#refusescapacity), [`used`](crate::words#used).
     fn try_reserve(&mut self, additional: usize) -> Result<(), ReserveError>;
 
     /// Calls a closure once for each live key, and removes the keys for which it returns `false`.
@@ -473,6 +501,8 @@ pub trait Primary<K: Key, V>: Sized {
     /// ensures leaves { Leaves (content self.old) (content self.new) }
     /// ensures valid { StaysValid REUSES (content self.old) (content self.new) }
     /// ```
+    ///
+    /// Words: [`CallableOnEach`](crate::words#callableoneach), [`Leaves`](crate::words#leaves), [`live`](crate::words#live), [`RetainsBy`](crate::words#retainsby), [`StaysValid`](crate::words#staysvalid).
     fn retain<F: FnMut(K, &mut V) -> bool>(&mut self, f: F)
     where
         F: Sized,
@@ -502,6 +532,8 @@ pub trait Primary<K: Key, V>: Sized {
     /// ensures leaves { Leaves (content self.old) (content self.new) }
     /// ensures valid { StaysValid REUSES (content self.old) (content self.new) }
     /// ```
+    ///
+    /// Words: [`Leaves`](crate::words#leaves), [`live`](crate::words#live), [`StaysValid`](crate::words#staysvalid).
     fn clear(&mut self)
     where
         V: Sized,;
@@ -539,6 +571,8 @@ pub trait Primary<K: Key, V>: Sized {
     ///     ((content self.new ≡ content self.old) × (out.new.items ≡ out.old.items)) }
     /// ensures valid { StaysValid REUSES (content self.old) (content self.new) }
     /// ```
+    ///
+    /// Words: [`IsListing`](crate::words#islisting), [`Leaves`](crate::words#leaves), [`live`](crate::words#live), [`StaysValid`](crate::words#staysvalid).
     fn drain_into(&mut self, out: &mut Vec<(K, V)>) -> Result<(), OutOfMemory>;
 
     /// Appends every live key to `out`.
@@ -569,6 +603,8 @@ pub trait Primary<K: Key, V>: Sized {
     /// ensures unchanged { OnErr result (out.new.items ≡ out.old.items) }
     /// ensures valid { IsContent REUSES (content self.now) }
     /// ```
+    ///
+    /// Words: [`IsContent`](crate::words#iscontent), [`IsKeyListing`](crate::words#iskeylisting), [`live`](crate::words#live).
     fn keys_into(&self, out: &mut Vec<K>) -> Result<(), OutOfMemory>;
 }
 
@@ -621,6 +657,8 @@ pub trait Detaching<K: Key, V>: Primary<K, V> {
     ///     ≡ map.remove (Self.content self.old).live (K.data_of key) }
     /// ensures valid { StaysValid Self.REUSES (Self.content self.old) (Self.content self.new) }
     /// ```
+    ///
+    /// Words: [`Detaches`](crate::words#detaches), [`live`](crate::words#live), [`StaysValid`](crate::words#staysvalid).
     fn detach(&mut self, key: K) -> Option<V>;
 
     /// Binds a detached key to a value again.
@@ -651,5 +689,7 @@ pub trait Detaching<K: Key, V>: Primary<K, V> {
     /// ensures valid { MayGrow Self.REUSES
     ///     (Self.content self.old) (IsErr result) (Self.content self.new) }
     /// ```
+    ///
+    /// Words: [`MayGrow`](crate::words#maygrow), [`Reattaches`](crate::words#reattaches), [`RefusesReattach`](crate::words#refusesreattach).
     fn reattach(&mut self, key: K, value: V) -> Result<(), ReattachError<V>>;
 }

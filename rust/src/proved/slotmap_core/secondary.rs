@@ -101,6 +101,8 @@ pub trait Secondary<K: Key, V: Sized> {
     /// ensures value { result ≡ map.len (pairs self.now) }
     /// ensures valid { IsSecondary (pairs self.now) }
     /// ```
+    ///
+    /// Words: [`IsSecondary`](crate::words#issecondary).
     fn len(&self) -> usize;
 
     /// Returns whether this key is in the map.
@@ -128,6 +130,8 @@ pub trait Secondary<K: Key, V: Sized> {
     /// ensures value { result ≡ pair.contains_key (pairs self.now) (K.data_of key) }
     /// ensures valid { IsSecondary (pairs self.now) }
     /// ```
+    ///
+    /// Words: [`contains_key`](crate::words#contains_key), [`IsSecondary`](crate::words#issecondary).
     fn contains_key(&self, key: K) -> bool;
 
     /// Returns the value of a key, or `None` if the key isn't in the map.
@@ -155,6 +159,8 @@ pub trait Secondary<K: Key, V: Sized> {
     /// ensures value { option_copied result ≡ pair.get (pairs self.now) (K.data_of key) }
     /// ensures valid { IsSecondary (pairs self.now) }
     /// ```
+    ///
+    /// Words: [`get`](crate::words#get), [`IsSecondary`](crate::words#issecondary).
     fn get(&self, key: K) -> Option<&V>;
 
     /// Inserts a value under a key, and returns the value that the key had.
@@ -191,6 +197,8 @@ pub trait Secondary<K: Key, V: Sized> {
     ///
     /// ensures valid { IsSecondary (pairs self.new) }
     /// ```
+    ///
+    /// Words: [`get`](crate::words#get), [`IsSecondary`](crate::words#issecondary), [`put`](crate::words#put), [`RefusesPut`](crate::words#refusesput).
     fn insert(&mut self, key: K, value: V) -> Result<Option<V>, PutError<V>>;
 
     /// Removes a key and returns its value, or `None` if the key isn't in the map.
@@ -220,6 +228,8 @@ pub trait Secondary<K: Key, V: Sized> {
     ///
     /// ensures valid { IsSecondary (pairs self.new) }
     /// ```
+    ///
+    /// Words: [`get`](crate::words#get), [`IsSecondary`](crate::words#issecondary), [`remove`](crate::words#remove).
     fn remove(&mut self, key: K) -> Option<V>;
 
     /// Inserts a value under a key whose entry is vacant, and otherwise returns the value.
@@ -247,6 +257,8 @@ pub trait Secondary<K: Key, V: Sized> {
     /// ensures does { OrPuts (pairs self.old) (K.data_of key) value result (pairs self.new) }
     /// ensures valid { IsSecondary (pairs self.new) }
     /// ```
+    ///
+    /// Words: [`IsSecondary`](crate::words#issecondary), [`OrPuts`](crate::words#orputs).
     fn or_put(&mut self, key: K, value: V) -> OrPut<V>;
 }
 

@@ -86,6 +86,8 @@ impl<V> SlotRecord<V> {
 /// // For a caller that goes on to read the list: each version has 32 bits.
 /// ensures versions_fit { OnOk result (AllFitBelow list.now (length list.now)) }
 /// ```
+///
+/// Words: [`Accepts`](crate::words#accepts), [`AllFitBelow`](crate::words#allfitbelow), [`RefusesList`](crate::words#refuseslist).
 #[inline]
 pub fn check_slots<V>(list: &[SlotRecord<V>], limit: usize) -> Result<(), SlotsError>
 {

@@ -49,6 +49,8 @@ impl<K: Key, V: Sized> DenseSlotMap<K, V> {
     /// ensures value { result ≡ map.contains_key self.now.content.live (K.data_of key) }
     /// ensures valid { IsDense self.now }
     /// ```
+    ///
+    /// Words: [`content`](crate::words#content-of-slotmap_dense-dense), [`IsDense`](crate::words#isdense), [`live`](crate::words#live).
     #[inline]
     pub fn contains_key(&self, key: K) -> bool
     {
@@ -80,6 +82,8 @@ impl<K: Key, V: Sized> DenseSlotMap<K, V> {
     /// ensures value { option_copied result ≡ map.get self.now.content.live (K.data_of key) }
     /// ensures valid { IsDense self.now }
     /// ```
+    ///
+    /// Words: [`content`](crate::words#content-of-slotmap_dense-dense), [`IsDense`](crate::words#isdense), [`live`](crate::words#live).
     #[inline]
     pub fn get(&self, key: K) -> Option<&V>
     {
@@ -112,6 +116,8 @@ impl<K: Key, V: Sized> DenseSlotMap<K, V> {
     /// ensures value { map.get self.now.content.live (K.data_of key) ≡ Some result.now }
     /// ensures valid { IsDense self.now }
     /// ```
+    ///
+    /// Words: [`content`](crate::words#content-of-slotmap_dense-dense), [`IsDense`](crate::words#isdense), [`IsLive`](crate::words#islive), [`live`](crate::words#live).
     #[inline]
     pub fn get_unchecked(&self, key: K) -> &V
     {
@@ -148,6 +154,8 @@ impl<K: Key, V: Sized> DenseSlotMap<K, V> {
     /// ensures value { option_copied_mut result ≡ map.get self.old.content.live (K.data_of key) }
     /// ensures valid { IsDense self.old }
     /// ```
+    ///
+    /// Words: [`content`](crate::words#content-of-slotmap_dense-dense), [`IsDense`](crate::words#isdense), [`lends_get`](crate::words#lends_get-of-slotmap_dense-lends), [`live`](crate::words#live).
     #[inline]
     pub fn get_mut(&mut self, key: K) -> Option<&mut V>
     {
@@ -185,6 +193,8 @@ impl<K: Key, V: Sized> DenseSlotMap<K, V> {
     /// ensures value { map.get self.old.content.live (K.data_of key) ≡ Some result.now }
     /// ensures valid { IsDense self.old }
     /// ```
+    ///
+    /// Words: [`content`](crate::words#content-of-slotmap_dense-dense), [`IsDense`](crate::words#isdense), [`IsLive`](crate::words#islive), [`lends_value`](crate::words#lends_value-of-slotmap_dense-lends), [`live`](crate::words#live).
     #[inline]
     pub fn get_unchecked_mut(&mut self, key: K) -> &mut V
     {
@@ -222,6 +232,8 @@ impl<K: Key, V: Sized> DenseSlotMap<K, V> {
     /// ensures unchanged { OnErr result (self.new ≡ self.old) }
     /// ensures valid { StaysDense self.old self.new }
     /// ```
+    ///
+    /// Words: [`content`](crate::words#content-of-slotmap_dense-dense), [`IsLive`](crate::words#islive), [`live`](crate::words#live), [`StaysDense`](crate::words#staysdense), [`with_value_of`](crate::words#with_value_of).
     #[inline]
     pub fn replace(&mut self, key: K, value: V) -> Result<V, V>
     {
@@ -264,6 +276,8 @@ impl<K: Key, V: Sized> DenseSlotMap<K, V> {
     ///
     /// ensures valid { StaysDense self.old self.new }
     /// ```
+    ///
+    /// Words: [`AreValuesOf`](crate::words#arevaluesof-of-slotmap_core-several), [`CanReplace`](crate::words#canreplace-of-slotmap_core-several), [`StaysDense`](crate::words#staysdense), [`value_of`](crate::words#value_of-of-slotmap_dense-dense), [`with_value_of`](crate::words#with_value_of), [`with_values`](crate::words#with_values-of-slotmap_core-several).
     #[inline]
     pub fn replace_disjoint<const N: usize>(
         &mut self,
@@ -307,6 +321,8 @@ impl<K: Key, V: Sized> DenseSlotMap<K, V> {
     /// ensures which { IsTrue result ↔ CanReplace value_of self.now (map_list K.data_of keys.now) }
     /// ensures valid { IsDense self.now }
     /// ```
+    ///
+    /// Words: [`CanReplace`](crate::words#canreplace-of-slotmap_core-several), [`IsDense`](crate::words#isdense), [`value_of`](crate::words#value_of-of-slotmap_dense-dense).
     #[inline]
     pub fn can_replace(&self, keys: &[K]) -> bool
     {
@@ -368,6 +384,8 @@ impl<K: Key, V: Sized> DenseSlotMap<K, V> {
     /// ensures value { IfSome result (λ pair. AreValuesOf value_of self.old (map_list K.data_of keys) (pair.0.now ∷ pair.1.now ∷ [])) }
     /// ensures valid { IsDense self.old }
     /// ```
+    ///
+    /// Words: [`AreValuesOf`](crate::words#arevaluesof-of-slotmap_core-several), [`CanReplace`](crate::words#canreplace-of-slotmap_core-several), [`IsDense`](crate::words#isdense), [`value_of`](crate::words#value_of-of-slotmap_dense-dense).
     #[inline]
     pub fn get_disjoint_mut(&mut self, keys: [K; 2]) -> Option<(&mut V, &mut V)>
     {
@@ -407,6 +425,8 @@ impl<K: Key, V: Sized> DenseSlotMap<K, V> {
     /// ensures value { AreValuesOf value_of self.old (map_list K.data_of keys) (result.0.now ∷ result.1.now ∷ []) }
     /// ensures valid { IsDense self.old }
     /// ```
+    ///
+    /// Words: [`AreValuesOf`](crate::words#arevaluesof-of-slotmap_core-several), [`CanReplace`](crate::words#canreplace-of-slotmap_core-several), [`IsDense`](crate::words#isdense), [`value_of`](crate::words#value_of-of-slotmap_dense-dense).
     #[inline]
     pub fn get_disjoint_unchecked_mut(&mut self, keys: [K; 2]) -> (&mut V, &mut V)
     {
@@ -467,6 +487,8 @@ impl<K: Key, V: Sized> IndexMut<K> for DenseSlotMap<K, V> {
     /// ensures value { map.get self.old.content.live (K.data_of key) ≡ Some result.now }
     /// ensures valid { IsDense self.old }
     /// ```
+    ///
+    /// Words: [`content`](crate::words#content-of-slotmap_dense-dense), [`IsDense`](crate::words#isdense), [`IsLive`](crate::words#islive), [`lends_value`](crate::words#lends_value-of-slotmap_dense-lends), [`live`](crate::words#live).
     #[inline]
     fn index_mut(&mut self, key: K) -> &mut V
     {

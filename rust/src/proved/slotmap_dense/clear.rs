@@ -37,6 +37,8 @@ impl<K: Key, V: Sized> DenseSlotMap<K, V> {
     /// ensures freed_order { FreesFromBack self.old self.new }
     /// ensures valid { StaysDense self.old self.new }
     /// ```
+    ///
+    /// Words: [`content`](crate::words#content-of-slotmap_dense-dense), [`FreesFromBack`](crate::words#freesfromback), [`IsEmpty`](crate::words#isempty), [`Leaves`](crate::words#leaves), [`live`](crate::words#live), [`StaysDense`](crate::words#staysdense).
     #[inline]
     pub fn clear(&mut self)
     {
@@ -73,6 +75,8 @@ impl<K: Key, V: Sized> DenseSlotMap<K, V> {
     /// ensures unchanged { OnErr result (out.new.items ≡ out.old.items) }
     /// ensures valid { IsDense self.now }
     /// ```
+    ///
+    /// Words: [`content`](crate::words#content-of-slotmap_dense-dense), [`IsDense`](crate::words#isdense), [`IsKeyListing`](crate::words#iskeylisting), [`keys`](crate::words#keys-of-slotmap_dense-dense), [`live`](crate::words#live).
     #[inline]
     pub fn keys_into(&self, out: &mut Vec<K>) -> Result<(), OutOfMemory>
     {
@@ -117,6 +121,8 @@ impl<K: Key, V: Sized> DenseSlotMap<K, V> {
     /// ensures unchanged { OnErr result ((self.new ≡ self.old) × (out.new.items ≡ out.old.items)) }
     /// ensures valid { StaysDense self.old self.new }
     /// ```
+    ///
+    /// Words: [`content`](crate::words#content-of-slotmap_dense-dense), [`FreesFromBack`](crate::words#freesfromback), [`IsListing`](crate::words#islisting), [`keys`](crate::words#keys-of-slotmap_dense-dense), [`Leaves`](crate::words#leaves), [`live`](crate::words#live), [`StaysDense`](crate::words#staysdense), [`values`](crate::words#values).
     #[inline]
     pub fn drain_into(&mut self, out: &mut Vec<(K, V)>) -> Result<(), OutOfMemory>
     {

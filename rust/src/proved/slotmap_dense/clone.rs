@@ -48,6 +48,8 @@ impl<K: Key, V: Clone> DenseSlotMap<K, V> {
     ///
     /// ensures valid { IfOk result IsDense }
     /// ```
+    ///
+    /// Words: [`ClonesEqual`](crate::words#clonesequal), [`ClonesInOrder`](crate::words#clonesinorder), [`content`](crate::words#content-of-slotmap_dense-dense), [`IsCloneBy`](crate::words#iscloneby), [`IsCopy`](crate::words#iscopy), [`IsDense`](crate::words#isdense), [`SameOrder`](crate::words#sameorder).
     #[inline]
     pub fn clone(&self) -> Result<Self, AllocError>
     {
@@ -93,6 +95,8 @@ impl<K: Key, V: Clone> DenseSlotMap<K, V> {
     /// ensures unchanged { OnErr result (self.new ≡ self.old) }
     /// ensures valid { OnOk result (IsDense self.new) }
     /// ```
+    ///
+    /// Words: [`ClonesEqual`](crate::words#clonesequal), [`ClonesInOrder`](crate::words#clonesinorder), [`content`](crate::words#content-of-slotmap_dense-dense), [`IsCloneBy`](crate::words#iscloneby), [`IsCopy`](crate::words#iscopy), [`IsDense`](crate::words#isdense), [`SameOrder`](crate::words#sameorder).
     #[inline]
     pub fn clone_from(&mut self, source: &Self) -> Result<(), AllocError>
     where

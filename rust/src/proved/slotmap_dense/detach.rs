@@ -43,6 +43,8 @@ impl<K: Key, V: Sized> DenseSlotMap<K, V> {
     /// ensures unchanged { IfNone result (self.new ≡ self.old) }
     /// ensures valid { StaysDense self.old self.new }
     /// ```
+    ///
+    /// Words: [`ClosesGap`](crate::words#closesgap), [`content`](crate::words#content-of-slotmap_dense-dense), [`Detaches`](crate::words#detaches), [`live`](crate::words#live), [`StaysDense`](crate::words#staysdense).
     #[inline(always)]
     pub fn detach(&mut self, key: K) -> Option<V>
     {
@@ -83,6 +85,8 @@ impl<K: Key, V: Sized> DenseSlotMap<K, V> {
     /// ensures unchanged { OnErr result (Keeps self.old.content self.new.content) }
     /// ensures valid { GrowsDense self.old (IsErr result) self.new }
     /// ```
+    ///
+    /// Words: [`Appends`](crate::words#appends), [`content`](crate::words#content-of-slotmap_dense-dense), [`GrowsDense`](crate::words#growsdense), [`Keeps`](crate::words#keeps), [`Reattaches`](crate::words#reattaches), [`RefusesReattach`](crate::words#refusesreattach).
     #[inline(always)]
     pub fn reattach(&mut self, key: K, value: V) -> Result<(), ReattachError<V>>
     {

@@ -99,6 +99,8 @@ impl<K: Key, V: Sized> DenseSlotMap<K, V> {
     /// ensures in_order { Along (DenseDrainSteps K.data_of) (DrainsFromBack K.data_of) result }
     /// ensures valid { IsDense self.old }
     /// ```
+    ///
+    /// Words: [`Along`](crate::words#along), [`dense_drain_live`](crate::words#dense_drain_live), [`dense_drain_loan`](crate::words#dense_drain_loan), [`DenseDrainSteps`](crate::words#densedrainsteps), [`DrainsFromBack`](crate::words#drainsfromback), [`EmptiesDense`](crate::words#emptiesdense), [`IsDense`](crate::words#isdense), [`KeepsAlong`](crate::words#keepsalong), [`KeepsLoan`](crate::words#keepsloan), [`ListsAlong`](crate::words#listsalong).
     #[inline]
     pub fn drain(&mut self) -> Drain<'_, K, V>
     {

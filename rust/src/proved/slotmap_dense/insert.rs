@@ -91,6 +91,8 @@ impl<K: Key, V: Sized> DenseSlotMap<K, V> {
     ///
     /// ensures valid { GrowsDense self.old (IsErr result) self.new }
     /// ```
+    ///
+    /// Words: [`Appends`](crate::words#appends), [`content`](crate::words#content-of-slotmap_dense-dense), [`GrowsDense`](crate::words#growsdense), [`Inserts`](crate::words#inserts), [`Refuses`](crate::words#refuses).
     #[inline(always)]
     pub fn insert(&mut self, value: V) -> Result<K, InsertError<V>>
     {
@@ -135,6 +137,8 @@ impl<K: Key, V: Sized> DenseSlotMap<K, V> {
     ///
     /// ensures valid { GrowsDense self.old (IsErr result) self.new }
     /// ```
+    ///
+    /// Words: [`Appends`](crate::words#appends), [`content`](crate::words#content-of-slotmap_dense-dense), [`GrowsDense`](crate::words#growsdense), [`Inserts`](crate::words#inserts), [`most`](crate::words#most), [`offer`](crate::words#offer), [`RefusesInsert`](crate::words#refusesinsert), [`used`](crate::words#used).
     #[inline]
     pub fn insert_with_key<F: FnOnce(K) -> V>(&mut self, f: F) -> Result<K, InsertWithError>
     where
@@ -178,6 +182,8 @@ impl<K: Key, V: Sized> DenseSlotMap<K, V> {
     ///
     /// ensures valid { GrowsDense self.old (IsErr result) self.new }
     /// ```
+    ///
+    /// Words: [`Appends`](crate::words#appends), [`content`](crate::words#content-of-slotmap_dense-dense), [`GrowsDense`](crate::words#growsdense), [`Inserts`](crate::words#inserts), [`most`](crate::words#most), [`offer`](crate::words#offer), [`RefusesWith`](crate::words#refuseswith), [`used`](crate::words#used).
     #[inline]
     pub fn try_insert_with_key<F, E>(&mut self, f: F) -> Result<K, TryInsertError<E>>
     where

@@ -299,6 +299,8 @@ impl<K: Key, V> DenseSlotMap<K, V> {
     /// ensures in_order { result ≡ zip self.now.keys self.now.values }
     /// ensures valid { IsDense self.now }
     /// ```
+    ///
+    /// Words: [`content`](crate::words#content-of-slotmap_dense-dense), [`IsDense`](crate::words#isdense), [`IsListing`](crate::words#islisting), [`keys`](crate::words#keys-of-slotmap_dense-dense), [`live`](crate::words#live), [`values`](crate::words#values).
     #[inline]
     pub fn iter(&self) -> Iter<'_, K, V>
     {
@@ -336,6 +338,8 @@ impl<K: Key, V> DenseSlotMap<K, V> {
     /// ensures in_order { result ≡ self.now.keys }
     /// ensures valid { IsDense self.now }
     /// ```
+    ///
+    /// Words: [`content`](crate::words#content-of-slotmap_dense-dense), [`IsDense`](crate::words#isdense), [`IsKeyListing`](crate::words#iskeylisting), [`keys`](crate::words#keys-of-slotmap_dense-dense), [`live`](crate::words#live).
     #[inline]
     pub fn keys(&self) -> Keys<'_, K, V>
     {
@@ -368,6 +372,8 @@ impl<K: Key, V> DenseSlotMap<K, V> {
     /// ensures in_order { result ≡ self.now.values }
     /// ensures valid { IsDense self.now }
     /// ```
+    ///
+    /// Words: [`content`](crate::words#content-of-slotmap_dense-dense), [`IsDense`](crate::words#isdense), [`IsValueListing`](crate::words#isvaluelisting), [`live`](crate::words#live), [`values`](crate::words#values).
     #[inline]
     pub fn values(&self) -> Values<'_, K, V>
     {

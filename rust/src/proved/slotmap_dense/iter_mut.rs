@@ -78,6 +78,8 @@ impl<'a, K: Key, V> IterMut<'a, K, V> {
     /// ```text
     /// ensures { result ≡ length (iter_mut_rest K.data_of self.now) }
     /// ```
+    ///
+    /// Words: [`iter_mut_rest`](crate::words#iter_mut_rest).
     #[inline]
     pub fn len(&self) -> usize
     {
@@ -151,6 +153,8 @@ impl<'a, K, V> ValuesMut<'a, K, V> {
     /// ```text
     /// ensures { result ≡ length (values_mut_rest self.now) }
     /// ```
+    ///
+    /// Words: [`values_mut_rest`](crate::words#values_mut_rest).
     #[inline]
     pub fn len(&self) -> usize
     {
@@ -191,6 +195,8 @@ impl<K: Key, V: Sized> DenseSlotMap<K, V> {
     /// ensures ready { IterMutCanStep result }
     /// ensures valid { IsDense self.old }
     /// ```
+    ///
+    /// Words: [`IsDense`](crate::words#isdense), [`iter_mut_name`](crate::words#iter_mut_name), [`iter_mut_rest`](crate::words#iter_mut_rest), [`IterMutCanStep`](crate::words#itermutcanstep), [`keys`](crate::words#keys-of-slotmap_dense-dense), [`lends_iter`](crate::words#lends_iter), [`values`](crate::words#values).
     #[inline]
     pub fn iter_mut(&mut self) -> IterMut<'_, K, V>
     {
@@ -229,6 +235,8 @@ impl<K: Key, V: Sized> DenseSlotMap<K, V> {
     /// ensures runs { YieldsMutRefsInOrder (values_mut_steps {K = K} {V = V}) values_mut_rest }
     /// ensures valid { IsDense self.old }
     /// ```
+    ///
+    /// Words: [`IsDense`](crate::words#isdense), [`lends_iter`](crate::words#lends_iter), [`values`](crate::words#values), [`values_mut_name`](crate::words#values_mut_name), [`values_mut_rest`](crate::words#values_mut_rest), [`values_mut_steps`](crate::words#values_mut_steps).
     #[inline]
     pub fn values_mut(&mut self) -> ValuesMut<'_, K, V>
     {

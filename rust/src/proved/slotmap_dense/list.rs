@@ -66,6 +66,8 @@ impl<K: Key, V: Sized> DenseSlotMap<K, V> {
     ///
     /// ensures valid { IsDense self.now }
     /// ```
+    ///
+    /// Words: [`ClonesEqual`](crate::words#clonesequal), [`content`](crate::words#content-of-slotmap_dense-dense), [`IsCloneOf`](crate::words#iscloneof), [`IsDense`](crate::words#isdense), [`Key`](crate::words#key), [`live`](crate::words#live), [`start_live`](crate::words#start_live), [`Writes`](crate::words#writes), [`WritesClones`](crate::words#writesclones).
     #[inline]
     pub fn to_slots(&self) -> Result<Vec<SlotRecord<V>>, OutOfMemory>
     where
@@ -133,6 +135,8 @@ impl<K: Key, V: Sized> DenseSlotMap<K, V> {
     /// ensures err { IfErr result (RefusesStart list.items list_limit) }
     /// ensures valid { IfOk result IsDense }
     /// ```
+    ///
+    /// Words: [`Accepts`](crate::words#accepts), [`content`](crate::words#content-of-slotmap_dense-dense), [`IsDense`](crate::words#isdense), [`list_limit`](crate::words#list_limit), [`live`](crate::words#live), [`ReadsAs`](crate::words#readsas), [`RefusesStart`](crate::words#refusesstart), [`stack`](crate::words#stack), [`start_stack`](crate::words#start_stack).
     #[inline]
     pub fn from_slots(alloc: Global, list: Vec<SlotRecord<V>>) -> Result<Self, SlotsError>
     {

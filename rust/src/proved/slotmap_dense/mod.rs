@@ -134,6 +134,8 @@ impl<V: Sized> DenseSlotMap<DefaultKey, V> {
     /// ensures err { IfErr result (λ error. error ≡ ReserveError.Memory) }
     /// ensures valid { IfOk result IsDense }
     /// ```
+    ///
+    /// Words: [`content`](crate::words#content-of-slotmap_dense-dense), [`IsDense`](crate::words#isdense), [`IsEmpty`](crate::words#isempty), [`IsNew`](crate::words#isnew), [`stack`](crate::words#stack).
     #[inline]
     pub fn new(alloc: Global) -> Result<Self, ReserveError>
     {
@@ -171,6 +173,8 @@ impl<V: Sized> DenseSlotMap<DefaultKey, V> {
     /// ensures err { IfErr result (RefusesCapacity capacity) }
     /// ensures valid { IfOk result IsDense }
     /// ```
+    ///
+    /// Words: [`capacity`](crate::words#capacity-of-slotmap_core-content), [`content`](crate::words#content-of-slotmap_dense-dense), [`IsDense`](crate::words#isdense), [`IsEmpty`](crate::words#isempty), [`IsNew`](crate::words#isnew), [`RefusesCapacity`](crate::words#refusescapacity), [`room`](crate::words#room-of-slotmap_core-content), [`stack`](crate::words#stack).
     #[inline]
     pub fn with_capacity(alloc: Global, capacity: usize) -> Result<Self, ReserveError>
     {
@@ -208,6 +212,8 @@ impl<K: Key, V: Sized> DenseSlotMap<K, V> {
     /// ensures err { IfErr result (λ error. error ≡ ReserveError.Memory) }
     /// ensures valid { IfOk result IsDense }
     /// ```
+    ///
+    /// Words: [`content`](crate::words#content-of-slotmap_dense-dense), [`IsDense`](crate::words#isdense), [`IsEmpty`](crate::words#isempty), [`IsNew`](crate::words#isnew), [`stack`](crate::words#stack).
     #[inline]
     pub fn with_key(alloc: Global) -> Result<Self, ReserveError>
     {
@@ -244,6 +250,8 @@ impl<K: Key, V: Sized> DenseSlotMap<K, V> {
     /// ensures err { IfErr result (RefusesCapacity capacity) }
     /// ensures valid { IfOk result IsDense }
     /// ```
+    ///
+    /// Words: [`capacity`](crate::words#capacity-of-slotmap_core-content), [`content`](crate::words#content-of-slotmap_dense-dense), [`IsDense`](crate::words#isdense), [`IsEmpty`](crate::words#isempty), [`IsNew`](crate::words#isnew), [`RefusesCapacity`](crate::words#refusescapacity), [`room`](crate::words#room-of-slotmap_core-content), [`stack`](crate::words#stack).
     #[inline]
     pub fn with_capacity_and_key(alloc: Global, capacity: usize) -> Result<Self, ReserveError>
     {
@@ -289,6 +297,8 @@ impl<K: Key, V: Sized> DenseSlotMap<K, V> {
     /// ensures value { result ≡ map.len self.now.content.live }
     /// ensures valid { IsDense self.now }
     /// ```
+    ///
+    /// Words: [`content`](crate::words#content-of-slotmap_dense-dense), [`IsDense`](crate::words#isdense), [`live`](crate::words#live).
     #[inline]
     pub fn len(&self) -> usize
     {
@@ -320,6 +330,8 @@ impl<K: Key, V: Sized> DenseSlotMap<K, V> {
     /// ensures value { IsTrue result ↔ (map.len self.now.content.live ≡ 0) }
     /// ensures valid { IsDense self.now }
     /// ```
+    ///
+    /// Words: [`content`](crate::words#content-of-slotmap_dense-dense), [`IsDense`](crate::words#isdense), [`live`](crate::words#live).
     #[inline]
     pub fn is_empty(&self) -> bool
     {
@@ -352,6 +364,8 @@ impl<K: Key, V: Sized> DenseSlotMap<K, V> {
     /// ensures value { result ≡ self.now.content.capacity }
     /// ensures valid { IsDense self.now }
     /// ```
+    ///
+    /// Words: [`capacity`](crate::words#capacity-of-slotmap_core-content), [`content`](crate::words#content-of-slotmap_dense-dense), [`IsDense`](crate::words#isdense).
     #[inline]
     pub fn capacity(&self) -> usize
     {
@@ -395,6 +409,8 @@ impl<K: Key, V: Sized> DenseSlotMap<K, V> {
     /// ensures makes_room { MakesDenseRoom self.old additional (IsOk result) self.new }
     /// ensures err { IfErr result (RefusesCapacity (used self.old.content + additional)) }
     /// ```
+    ///
+    /// Words: [`content`](crate::words#content-of-slotmap_dense-dense), [`MakesDenseRoom`](crate::words#makesdenseroom), [`RefusesCapacity`](crate::words#refusescapacity), [`used`](crate::words#used).
     #[inline(always)]
     pub fn reserve(&mut self, additional: usize) -> Result<(), ReserveError>
     {
@@ -429,6 +445,8 @@ impl<K: Key, V: Sized> DenseSlotMap<K, V> {
     /// ensures makes_room { MakesDenseRoom self.old additional (IsOk result) self.new }
     /// ensures err { IfErr result (RefusesCapacity (used self.old.content + additional)) }
     /// ```
+    ///
+    /// Words: [`content`](crate::words#content-of-slotmap_dense-dense), [`MakesDenseRoom`](crate::words#makesdenseroom), [`RefusesCapacity`](crate::words#refusescapacity), [`used`](crate::words#used).
     #[inline]
     pub fn try_reserve(&mut self, additional: usize) -> Result<(), ReserveError>
     {

@@ -60,6 +60,8 @@ impl<K: Key, V: Sized> DenseSlotMap<K, V> {
     /// ensures unchanged { IfNone result (self.new ≡ self.old) }
     /// ensures valid { StaysDense self.old self.new }
     /// ```
+    ///
+    /// Words: [`ClosesGap`](crate::words#closesgap), [`content`](crate::words#content-of-slotmap_dense-dense), [`live`](crate::words#live), [`Removes`](crate::words#removes), [`StaysDense`](crate::words#staysdense).
     #[inline(always)]
     pub fn remove(&mut self, key: K) -> Option<V>
     {

@@ -79,6 +79,8 @@ impl<K: Key, V: Sized> DenseSlotMap<K, V> {
     /// ensures leaves { Leaves self.old.content self.new.content }
     /// ensures valid { StaysDense self.old self.new }
     /// ```
+    ///
+    /// Words: [`CallableOnEach`](crate::words#callableoneach), [`content`](crate::words#content-of-slotmap_dense-dense), [`Leaves`](crate::words#leaves), [`live`](crate::words#live), [`RetainsBy`](crate::words#retainsby), [`RetainsPacked`](crate::words#retainspacked), [`StaysDense`](crate::words#staysdense).
     #[inline]
     pub fn retain<F: FnMut(K, &mut V) -> bool>(&mut self, mut f: F)
     where

@@ -31,6 +31,8 @@ impl<K: Key, V: Sized> DenseSlotMap<K, V> {
     /// ensures keys { list_map K.data_of result.now ≡ self.now.keys }
     /// ensures valid { IsDense self.now }
     /// ```
+    ///
+    /// Words: [`IsDense`](crate::words#isdense), [`keys`](crate::words#keys-of-slotmap_dense-dense).
     #[inline]
     pub fn keys_as_slice(&self) -> &[K]
     {
@@ -61,6 +63,8 @@ impl<K: Key, V: Sized> DenseSlotMap<K, V> {
     /// ensures values { result.now ≡ self.now.values }
     /// ensures valid { IsDense self.now }
     /// ```
+    ///
+    /// Words: [`IsDense`](crate::words#isdense), [`values`](crate::words#values).
     #[inline]
     pub fn values_as_slice(&self) -> &[V]
     {
@@ -92,6 +96,8 @@ impl<K: Key, V: Sized> DenseSlotMap<K, V> {
     /// ensures values { result.1.now ≡ self.now.values }
     /// ensures valid { IsDense self.now }
     /// ```
+    ///
+    /// Words: [`IsDense`](crate::words#isdense), [`keys`](crate::words#keys-of-slotmap_dense-dense), [`values`](crate::words#values).
     #[inline]
     pub fn as_slices(&self) -> (&[K], &[V])
     {
@@ -124,6 +130,8 @@ impl<K: Key, V: Sized> DenseSlotMap<K, V> {
     /// ensures value { result.now ≡ self.old.values }
     /// ensures valid { IsDense self.old }
     /// ```
+    ///
+    /// Words: [`IsDense`](crate::words#isdense), [`lends_values`](crate::words#lends_values), [`values`](crate::words#values).
     #[inline]
     pub fn values_as_mut_slice(&mut self) -> &mut [V]
     {
@@ -158,6 +166,8 @@ impl<K: Key, V: Sized> DenseSlotMap<K, V> {
     /// ensures values { result.1.now ≡ self.old.values }
     /// ensures valid { IsDense self.old }
     /// ```
+    ///
+    /// Words: [`IsDense`](crate::words#isdense), [`keys`](crate::words#keys-of-slotmap_dense-dense), [`lends_iter`](crate::words#lends_iter), [`values`](crate::words#values).
     #[inline]
     pub fn as_mut_slices(&mut self) -> (&[K], &mut [V])
     {

@@ -47,6 +47,8 @@ impl<K: Key, E: Sized, T: Tables<K>> World<K, E, T> {
     ///     ≡ both_of (get (A.Table.pairs (A.table self.now.tables)) (K.data_of key)) (get (B.Table.pairs (B.table self.now.tables)) (K.data_of key)) }
     /// ensures live { IsSome result → IsLive self.now.entities.content (K.data_of key) }
     /// ```
+    ///
+    /// Words: [`both_of`](crate::words#both_of), [`content`](crate::words#content-of-slotmap_dense-dense), [`entities`](crate::words#entities), [`get`](crate::words#get), [`IsLive`](crate::words#islive), [`pairs`](crate::words#pairs-of-slotmap_secondary-content), [`tables`](crate::words#tables).
     pub fn both<'a, A: Kind<K, T>, B: Kind<K, T>>(
         &'a self,
         key: K,
@@ -108,6 +110,8 @@ impl<K: Key, E: Sized, T: Tables<K>> World<K, E, T> {
     /// ensures kinds { self.new.tables ≡ B.with_table (A.with_table self.old.tables (A.table self.new.tables)) (B.table self.new.tables) }
     /// ensures entities { self.new.entities ≡ self.old.entities }
     /// ```
+    ///
+    /// Words: [`both_of`](crate::words#both_of), [`content`](crate::words#content-of-slotmap_dense-dense), [`entities`](crate::words#entities), [`Gains`](crate::words#gains), [`get`](crate::words#get), [`IsLive`](crate::words#islive), [`pairs`](crate::words#pairs-of-slotmap_secondary-content), [`tables`](crate::words#tables).
     pub fn replace_both<A: Apart<K, T, B>, B: Kind<K, T>>(
         &mut self,
         key: K,

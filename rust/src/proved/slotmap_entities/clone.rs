@@ -34,6 +34,8 @@ pub trait CloneTable<K: Key>: Table<K> {
     /// ```text
     /// ensures { IfOk result (λ copy. HasClones is_clone (Self.Table.pairs self.now) (Self.Table.pairs copy)) }
     /// ```
+    ///
+    /// Words: [`HasClones`](crate::words#hasclones), [`pairs`](crate::words#pairs-of-slotmap_secondary-content).
     fn clone_table(&self) -> Result<Self, AllocError>;
 }
 
@@ -79,6 +81,8 @@ pub trait CloneTables<K: Key>: Tables<K> {
     /// ensures clones { IfOk result (are_clones self.now) }
     /// ensures same { IfOk result (λ copy. (q : KeyOf) → Self.Tables.has copy q ≡ Self.Tables.has self.now q) }
     /// ```
+    ///
+    /// Words: [`Key`](crate::words#key).
     fn clone_tables(&self) -> Result<Self, AllocError>;
 
     // Where clones equal their components, each entity has the same in a copy.
@@ -167,6 +171,8 @@ impl<K: Key, E: Clone, T: CloneTables<K>> World<K, E, T> {
     /// ensures order_if_clones_equal { IfOk result (λ copy. ClonesEqual E.is_clone → SameOrder self.now.entities copy.entities) }
     /// ensures same_if_clones_equal { IfOk result (λ copy. T.clones_equal → (q : KeyOf) → T.Tables.parts copy.tables q ≡ T.Tables.parts self.now.tables q) }
     /// ```
+    ///
+    /// Words: [`ClonesEqual`](crate::words#clonesequal), [`ClonesInOrder`](crate::words#clonesinorder), [`content`](crate::words#content-of-slotmap_dense-dense), [`entities`](crate::words#entities), [`IsCloneBy`](crate::words#iscloneby), [`IsCopy`](crate::words#iscopy), [`Key`](crate::words#key), [`SameOrder`](crate::words#sameorder), [`tables`](crate::words#tables).
     pub fn clone(&self) -> Result<Self, AllocError>
     {
         let entities = self.entities.clone()?;

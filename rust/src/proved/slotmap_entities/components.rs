@@ -82,6 +82,8 @@ impl<K: Key, E: Sized, T: Tables<K>> World<K, E, T> {
     /// ensures kinds { self.new.tables ≡ C.with_table self.old.tables (C.table self.new.tables) }
     /// ensures entities { self.new.entities ≡ self.old.entities }
     /// ```
+    ///
+    /// Words: [`contains_key`](crate::words#contains_key), [`content`](crate::words#content-of-slotmap_dense-dense), [`entities`](crate::words#entities), [`get`](crate::words#get), [`index`](crate::words#index), [`IsLive`](crate::words#islive), [`Key`](crate::words#key), [`pairs`](crate::words#pairs-of-slotmap_secondary-content), [`RefusesAttach`](crate::words#refusesattach), [`tables`](crate::words#tables).
     pub fn attach<C: Kind<K, T>>(
         &mut self,
         key: K,
@@ -131,6 +133,8 @@ impl<K: Key, E: Sized, T: Tables<K>> World<K, E, T> {
     /// ensures kinds { self.new.tables ≡ C.with_table self.old.tables (C.table self.new.tables) }
     /// ensures entities { self.new.entities ≡ self.old.entities }
     /// ```
+    ///
+    /// Words: [`entities`](crate::words#entities), [`pairs`](crate::words#pairs-of-slotmap_secondary-content), [`tables`](crate::words#tables).
     pub fn reserve_components<C: Kind<K, T>>(
         &mut self,
         additional: usize,
@@ -169,6 +173,8 @@ impl<K: Key, E: Sized, T: Tables<K>> World<K, E, T> {
     /// ensures kinds { self.new.tables ≡ C.with_table self.old.tables (C.table self.new.tables) }
     /// ensures entities { self.new.entities ≡ self.old.entities }
     /// ```
+    ///
+    /// Words: [`content`](crate::words#content-of-slotmap_dense-dense), [`entities`](crate::words#entities), [`get`](crate::words#get), [`IsLive`](crate::words#islive), [`Key`](crate::words#key), [`pairs`](crate::words#pairs-of-slotmap_secondary-content), [`tables`](crate::words#tables).
     pub fn detach<C: Kind<K, T>>(&mut self, key: K) -> Option<ComponentOf<K, T, C>>
     {
         C::table_mut(&mut self.tables).remove(key)
@@ -195,6 +201,8 @@ impl<K: Key, E: Sized, T: Tables<K>> World<K, E, T> {
     /// ensures value { result ≡ contains_key (C.Table.pairs (C.table self.now.tables)) (K.data_of key) }
     /// ensures live { IsTrue result → IsLive self.now.entities.content (K.data_of key) }
     /// ```
+    ///
+    /// Words: [`contains_key`](crate::words#contains_key), [`content`](crate::words#content-of-slotmap_dense-dense), [`entities`](crate::words#entities), [`IsLive`](crate::words#islive), [`pairs`](crate::words#pairs-of-slotmap_secondary-content), [`tables`](crate::words#tables).
     pub fn has<C: Kind<K, T>>(&self, key: K) -> bool
     {
         C::table(&self.tables).contains_key(key)
@@ -222,6 +230,8 @@ impl<K: Key, E: Sized, T: Tables<K>> World<K, E, T> {
     /// ensures value { option_copied result ≡ get (C.Table.pairs (C.table self.now.tables)) (K.data_of key) }
     /// ensures live { IsSome result → IsLive self.now.entities.content (K.data_of key) }
     /// ```
+    ///
+    /// Words: [`content`](crate::words#content-of-slotmap_dense-dense), [`entities`](crate::words#entities), [`get`](crate::words#get), [`IsLive`](crate::words#islive), [`pairs`](crate::words#pairs-of-slotmap_secondary-content), [`tables`](crate::words#tables).
     pub fn component<'a, C: Kind<K, T>>(&'a self, key: K) -> Option<&'a ComponentOf<K, T, C>>
     where
         C::Table: 'a,
@@ -260,6 +270,8 @@ impl<K: Key, E: Sized, T: Tables<K>> World<K, E, T> {
     /// ensures value { option_copied_mut result ≡ get (C.Table.pairs (C.table self.old.tables)) (K.data_of key) }
     /// ensures live { IsSome result → IsLive self.old.entities.content (K.data_of key) }
     /// ```
+    ///
+    /// Words: [`content`](crate::words#content-of-slotmap_dense-dense), [`entities`](crate::words#entities), [`get`](crate::words#get), [`IsLive`](crate::words#islive), [`lends_component`](crate::words#lends_component), [`pairs`](crate::words#pairs-of-slotmap_secondary-content), [`tables`](crate::words#tables).
     pub fn component_mut<'a, C: Kind<K, T>>(
         &'a mut self,
         key: K,
@@ -308,6 +320,8 @@ impl<K: Key, E: Sized, T: Tables<K>> World<K, E, T> {
     /// ensures kinds { self.new.tables ≡ C.with_table self.old.tables (C.table self.new.tables) }
     /// ensures entities { self.new.entities ≡ self.old.entities }
     /// ```
+    ///
+    /// Words: [`CallableOnEach`](crate::words#callableoneach), [`entities`](crate::words#entities), [`keyed`](crate::words#keyed), [`pairs`](crate::words#pairs-of-slotmap_secondary-content), [`RetainsBy`](crate::words#retainsby), [`tables`](crate::words#tables).
     pub fn retain_components<C: Kind<K, T>, F: FnMut(K, &mut ComponentOf<K, T, C>) -> bool>(
         &mut self,
         f: F,

@@ -31,6 +31,8 @@ impl<K: Key, E: Sized, T: Tables<K>> World<K, E, T> {
     /// ensures in_order { result ≡ zip self.now.entities.keys self.now.entities.values }
     /// ensures valid { IsDense self.now.entities }
     /// ```
+    ///
+    /// Words: [`content`](crate::words#content-of-slotmap_dense-dense), [`entities`](crate::words#entities), [`IsDense`](crate::words#isdense), [`IsListing`](crate::words#islisting), [`keys`](crate::words#keys-of-slotmap_core-joined), [`live`](crate::words#live), [`values`](crate::words#values).
     pub fn iter(&self) -> Iter<'_, K, E>
     {
         self.entities.iter()
@@ -68,6 +70,8 @@ impl<K: Key, E: Sized, T: Tables<K>> World<K, E, T> {
     /// // So each entity is there once.
     /// ensures valid { IsDense self.now.entities }
     /// ```
+    ///
+    /// Words: [`content`](crate::words#content-of-slotmap_dense-dense), [`entities`](crate::words#entities), [`IsDense`](crate::words#isdense), [`keys`](crate::words#keys-of-slotmap_core-joined), [`live`](crate::words#live).
     pub fn keys_as_slice(&self) -> &[K]
     {
         self.entities.keys_as_slice()
@@ -94,6 +98,8 @@ impl<K: Key, E: Sized, T: Tables<K>> World<K, E, T> {
     /// ensures in_order { result ≡ self.now.entities.keys }
     /// ensures valid { IsDense self.now.entities }
     /// ```
+    ///
+    /// Words: [`content`](crate::words#content-of-slotmap_dense-dense), [`entities`](crate::words#entities), [`IsDense`](crate::words#isdense), [`IsKeyListing`](crate::words#iskeylisting), [`keys`](crate::words#keys-of-slotmap_core-joined), [`live`](crate::words#live).
     pub fn keys(&self) -> Keys<'_, K, E>
     {
         self.entities.keys()
@@ -120,6 +126,8 @@ impl<K: Key, E: Sized, T: Tables<K>> World<K, E, T> {
     /// ensures in_order { result ≡ self.now.entities.values }
     /// ensures valid { IsDense self.now.entities }
     /// ```
+    ///
+    /// Words: [`content`](crate::words#content-of-slotmap_dense-dense), [`entities`](crate::words#entities), [`IsDense`](crate::words#isdense), [`IsValueListing`](crate::words#isvaluelisting), [`live`](crate::words#live), [`values`](crate::words#values).
     pub fn values(&self) -> Values<'_, K, E>
     {
         self.entities.values()

@@ -110,6 +110,8 @@ impl<K: Key, E: Sized, T: Tables<K>> World<K, E, T> {
     /// // So each of them is an entity, and is there once.
     /// ensures valid { IsDense self.now.entities }
     /// ```
+    ///
+    /// Words: [`entities`](crate::words#entities), [`found_by`](crate::words#found_by), [`get`](crate::words#get), [`IsDense`](crate::words#isdense), [`keys`](crate::words#keys-of-slotmap_core-joined), [`pairs`](crate::words#pairs-of-slotmap_secondary-content), [`tables`](crate::words#tables).
     pub fn with<'a, C: Kind<K, T>>(&'a self) -> With<'a, K, E, C::Table>
     where
         C::Table: 'a,
@@ -152,6 +154,8 @@ impl<K: Key, E: Sized, T: Tables<K>> World<K, E, T> {
     /// // So each of them is an entity, and is there once.
     /// ensures valid { IsDense self.now.entities }
     /// ```
+    ///
+    /// Words: [`both_found_by`](crate::words#both_found_by), [`entities`](crate::words#entities), [`get`](crate::words#get), [`IsDense`](crate::words#isdense), [`keys`](crate::words#keys-of-slotmap_core-joined), [`pairs`](crate::words#pairs-of-slotmap_secondary-content), [`tables`](crate::words#tables).
     pub fn with_both<'a, A: Kind<K, T>, B: Kind<K, T>>(
         &'a self,
     ) -> WithBoth<'a, K, E, A::Table, B::Table>

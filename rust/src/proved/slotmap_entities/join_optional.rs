@@ -82,6 +82,8 @@ impl<K: Key, E: Sized, T: Tables<K>> World<K, E, T> {
     /// // So each of them is an entity, and is there once.
     /// ensures valid { IsDense self.now.entities }
     /// ```
+    ///
+    /// Words: [`entities`](crate::words#entities), [`get`](crate::words#get), [`IsDense`](crate::words#isdense), [`keys`](crate::words#keys-of-slotmap_core-joined), [`optional_found_by`](crate::words#optional_found_by), [`pairs`](crate::words#pairs-of-slotmap_secondary-content), [`tables`](crate::words#tables).
     pub fn with_optional<'a, A: Kind<K, T>, B: Kind<K, T>>(
         &'a self,
     ) -> WithOptional<'a, K, E, A::Table, B::Table>

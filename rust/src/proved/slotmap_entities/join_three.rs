@@ -89,6 +89,8 @@ impl<K: Key, E: Sized, T: Tables<K>> World<K, E, T> {
     /// // So each of them is an entity, and is there once.
     /// ensures valid { IsDense self.now.entities }
     /// ```
+    ///
+    /// Words: [`entities`](crate::words#entities), [`get`](crate::words#get), [`IsDense`](crate::words#isdense), [`keys`](crate::words#keys-of-slotmap_core-joined), [`pairs`](crate::words#pairs-of-slotmap_secondary-content), [`tables`](crate::words#tables), [`three_found_by`](crate::words#three_found_by).
     pub fn with_three<'a, A: Kind<K, T>, B: Kind<K, T>, C: Kind<K, T>>(
         &'a self,
     ) -> WithThree<'a, K, E, A::Table, B::Table, C::Table>

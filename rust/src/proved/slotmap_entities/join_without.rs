@@ -81,6 +81,8 @@ impl<K: Key, E: Sized, T: Tables<K>> World<K, E, T> {
     /// // So each of them is an entity, and is there once.
     /// ensures valid { IsDense self.now.entities }
     /// ```
+    ///
+    /// Words: [`contains_key`](crate::words#contains_key), [`entities`](crate::words#entities), [`found_without`](crate::words#found_without), [`get`](crate::words#get), [`IsDense`](crate::words#isdense), [`keys`](crate::words#keys-of-slotmap_core-joined), [`pairs`](crate::words#pairs-of-slotmap_secondary-content), [`tables`](crate::words#tables).
     pub fn with_without<'a, A: Kind<K, T>, B: Kind<K, T>>(
         &'a self,
     ) -> WithWithout<'a, K, E, A::Table, B::Table>

@@ -111,6 +111,8 @@ impl<E: Sized, T: Tables<DefaultKey>> World<DefaultKey, E, T> {
     /// ensures tables { IfOk result (λ world. (q : KeyOf) → T.has world.tables q ≡ false) }
     /// ensures err { IfErr result (λ error. error ≡ ReserveError.Memory) }
     /// ```
+    ///
+    /// Words: [`content`](crate::words#content-of-slotmap_dense-dense), [`entities`](crate::words#entities), [`IsEmpty`](crate::words#isempty), [`IsNew`](crate::words#isnew), [`Key`](crate::words#key), [`tables`](crate::words#tables).
     pub fn new(alloc: Global) -> Result<Self, ReserveError>
     {
         World::with_key(alloc)
@@ -142,6 +144,8 @@ impl<E: Sized, T: Tables<DefaultKey>> World<DefaultKey, E, T> {
     /// ensures room { IfOk result (λ world. capacity ≤ world.entities.content.room) }
     /// ensures err { IfErr result (RefusesCapacity capacity) }
     /// ```
+    ///
+    /// Words: [`content`](crate::words#content-of-slotmap_dense-dense), [`entities`](crate::words#entities), [`IsEmpty`](crate::words#isempty), [`IsNew`](crate::words#isnew), [`Key`](crate::words#key), [`RefusesCapacity`](crate::words#refusescapacity), [`room`](crate::words#room-of-slotmap_core-content), [`tables`](crate::words#tables).
     pub fn with_capacity(alloc: Global, capacity: usize) -> Result<Self, ReserveError>
     {
         World::with_capacity_and_key(alloc, capacity)
@@ -171,6 +175,8 @@ impl<K: Key, E: Sized, T: Tables<K>> World<K, E, T> {
     /// ensures tables { IfOk result (λ world. (q : KeyOf) → T.has world.tables q ≡ false) }
     /// ensures err { IfErr result (λ error. error ≡ ReserveError.Memory) }
     /// ```
+    ///
+    /// Words: [`content`](crate::words#content-of-slotmap_dense-dense), [`entities`](crate::words#entities), [`IsEmpty`](crate::words#isempty), [`IsNew`](crate::words#isnew), [`Key`](crate::words#key), [`tables`](crate::words#tables).
     pub fn with_key(alloc: Global) -> Result<Self, ReserveError>
     {
         World::with_capacity_and_key(alloc, 0)
@@ -200,6 +206,8 @@ impl<K: Key, E: Sized, T: Tables<K>> World<K, E, T> {
     /// ensures room { IfOk result (λ world. capacity ≤ world.entities.content.room) }
     /// ensures err { IfErr result (RefusesCapacity capacity) }
     /// ```
+    ///
+    /// Words: [`content`](crate::words#content-of-slotmap_dense-dense), [`entities`](crate::words#entities), [`IsEmpty`](crate::words#isempty), [`IsNew`](crate::words#isnew), [`Key`](crate::words#key), [`RefusesCapacity`](crate::words#refusescapacity), [`room`](crate::words#room-of-slotmap_core-content), [`tables`](crate::words#tables).
     pub fn with_capacity_and_key(alloc: Global, capacity: usize) -> Result<Self, ReserveError>
     {
         let entities = DenseSlotMap::with_capacity_and_key(alloc, capacity)?;
@@ -233,6 +241,8 @@ impl<K: Key, E: Sized, T: Tables<K>> World<K, E, T> {
     /// ensures err { IfErr result (RefusesCapacity (used self.old.entities.content + additional)) }
     /// ensures tables { self.new.tables ≡ self.old.tables }
     /// ```
+    ///
+    /// Words: [`content`](crate::words#content-of-slotmap_dense-dense), [`entities`](crate::words#entities), [`MakesDenseRoom`](crate::words#makesdenseroom), [`RefusesCapacity`](crate::words#refusescapacity), [`tables`](crate::words#tables), [`used`](crate::words#used).
     pub fn reserve(&mut self, additional: usize) -> Result<(), ReserveError>
     {
         self.entities.reserve(additional)
@@ -259,6 +269,8 @@ impl<K: Key, E: Sized, T: Tables<K>> World<K, E, T> {
     /// ```text
     /// ensures { result ≡ self.now.entities.content.capacity }
     /// ```
+    ///
+    /// Words: [`capacity`](crate::words#capacity-of-slotmap_core-content), [`content`](crate::words#content-of-slotmap_dense-dense), [`entities`](crate::words#entities).
     pub fn capacity(&self) -> usize
     {
         self.entities.capacity()
@@ -286,6 +298,8 @@ impl<K: Key, E: Sized, T: Tables<K>> World<K, E, T> {
     /// ensures value { result ≡ map.len self.now.entities.content.live }
     /// ensures valid { IsDense self.now.entities }
     /// ```
+    ///
+    /// Words: [`content`](crate::words#content-of-slotmap_dense-dense), [`entities`](crate::words#entities), [`IsDense`](crate::words#isdense), [`live`](crate::words#live).
     pub fn len(&self) -> usize
     {
         self.entities.len()
@@ -311,6 +325,8 @@ impl<K: Key, E: Sized, T: Tables<K>> World<K, E, T> {
     /// ```text
     /// ensures { IsTrue result ↔ (map.len self.now.entities.content.live ≡ 0) }
     /// ```
+    ///
+    /// Words: [`content`](crate::words#content-of-slotmap_dense-dense), [`entities`](crate::words#entities), [`live`](crate::words#live).
     pub fn is_empty(&self) -> bool
     {
         self.len() == 0
@@ -337,6 +353,8 @@ impl<K: Key, E: Sized, T: Tables<K>> World<K, E, T> {
     /// ```text
     /// ensures { result ≡ map.contains_key self.now.entities.content.live (K.data_of key) }
     /// ```
+    ///
+    /// Words: [`content`](crate::words#content-of-slotmap_dense-dense), [`entities`](crate::words#entities), [`live`](crate::words#live).
     pub fn contains_key(&self, key: K) -> bool
     {
         self.entities.contains_key(key)
@@ -387,6 +405,8 @@ impl<K: Key, E: Sized, T: Tables<K>> World<K, E, T> {
     /// ensures tables { self.new.tables ≡ self.old.tables }
     /// ensures gone { KeepsSpent self.old.entities.content self.new.entities.content }
     /// ```
+    ///
+    /// Words: [`Appends`](crate::words#appends), [`capacity`](crate::words#capacity-of-slotmap_core-content), [`content`](crate::words#content-of-slotmap_dense-dense), [`entities`](crate::words#entities), [`index`](crate::words#index), [`Inserts`](crate::words#inserts), [`IsSpent`](crate::words#isspent), [`Keeps`](crate::words#keeps), [`KeepsSpent`](crate::words#keepsspent), [`live`](crate::words#live), [`places`](crate::words#places-of-slotmap_core-content), [`Refuses`](crate::words#refuses), [`room`](crate::words#room-of-slotmap_core-content), [`SameOrder`](crate::words#sameorder), [`tables`](crate::words#tables).
     pub fn spawn(&mut self, entity: E) -> Result<K, InsertError<E>>
     {
         self.entities.insert(entity)
@@ -433,6 +453,8 @@ impl<K: Key, E: Sized, T: Tables<K>> World<K, E, T> {
     /// ensures gone { KeepsSpent self.old.entities.content self.new.entities.content }
     /// ensures unchanged { IfNone result (self.new ≡ self.old) }
     /// ```
+    ///
+    /// Words: [`capacity`](crate::words#capacity-of-slotmap_core-content), [`ClosesGap`](crate::words#closesgap), [`content`](crate::words#content-of-slotmap_dense-dense), [`entities`](crate::words#entities), [`IsLive`](crate::words#islive), [`IsSpent`](crate::words#isspent), [`KeepsSpent`](crate::words#keepsspent), [`Key`](crate::words#key), [`Leaves`](crate::words#leaves), [`live`](crate::words#live), [`Removes`](crate::words#removes), [`tables`](crate::words#tables).
     pub fn despawn(&mut self, key: K) -> Option<(E, T::Parts)>
     {
         let value = self.entities.remove(key)?;
@@ -470,6 +492,8 @@ impl<K: Key, E: Sized, T: Tables<K>> World<K, E, T> {
     /// ensures room { T.keeps_room self.old.tables self.new.tables }
     /// ensures gives_back { T.gives_back self.old.tables self.new.tables }
     /// ```
+    ///
+    /// Words: [`capacity`](crate::words#capacity-of-slotmap_core-content), [`content`](crate::words#content-of-slotmap_dense-dense), [`entities`](crate::words#entities), [`IsEmpty`](crate::words#isempty), [`IsLive`](crate::words#islive), [`IsSpent`](crate::words#isspent), [`KeepsSpent`](crate::words#keepsspent), [`Key`](crate::words#key), [`Leaves`](crate::words#leaves), [`live`](crate::words#live), [`tables`](crate::words#tables).
     pub fn clear(&mut self)
     {
         self.entities.clear();
@@ -495,6 +519,8 @@ impl<K: Key, E: Sized, T: Tables<K>> World<K, E, T> {
     /// ```text
     /// ensures { option_copied result ≡ map.get self.now.entities.content.live (K.data_of key) }
     /// ```
+    ///
+    /// Words: [`content`](crate::words#content-of-slotmap_dense-dense), [`entities`](crate::words#entities), [`live`](crate::words#live).
     pub fn get(&self, key: K) -> Option<&E>
     {
         self.entities.get(key)
@@ -523,6 +549,8 @@ impl<K: Key, E: Sized, T: Tables<K>> World<K, E, T> {
     /// ensures* writes_back { sem 𝓛 (lends_entity K.row E.row T.row T.Parts.row K.Key T.Tables self.entry (K.data_of key) result) }
     /// ensures value { option_copied_mut result ≡ map.get self.old.entities.content.live (K.data_of key) }
     /// ```
+    ///
+    /// Words: [`content`](crate::words#content-of-slotmap_dense-dense), [`entities`](crate::words#entities), [`lends_entity`](crate::words#lends_entity), [`live`](crate::words#live).
     pub fn get_mut(&mut self, key: K) -> Option<&mut E>
     {
         match self.entities.get_mut(key) {
@@ -554,6 +582,8 @@ impl<K: Key, E: Sized, T: Tables<K>> World<K, E, T> {
     /// ensures tables { result.now ≡ self.now.tables }
     /// ensures live { (k : KeyOf) → T.has result.now k ≡ true → IsLive self.now.entities.content k }
     /// ```
+    ///
+    /// Words: [`content`](crate::words#content-of-slotmap_dense-dense), [`entities`](crate::words#entities), [`IsLive`](crate::words#islive), [`Key`](crate::words#key), [`tables`](crate::words#tables).
     pub fn tables(&self) -> &T
     {
         &self.tables

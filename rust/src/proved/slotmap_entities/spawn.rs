@@ -133,6 +133,8 @@ impl<K: Key, E: Sized, T: Tables<K>> World<K, E, T> {
     /// ensures kinds { self.new.tables ≡ C.with_table self.old.tables (C.table self.new.tables) }
     /// ensures gone { KeepsSpent self.old.entities.content self.new.entities.content }
     /// ```
+    ///
+    /// Words: [`Appends`](crate::words#appends), [`capacity`](crate::words#capacity-of-slotmap_core-content), [`content`](crate::words#content-of-slotmap_dense-dense), [`entities`](crate::words#entities), [`get`](crate::words#get), [`index`](crate::words#index), [`Inserts`](crate::words#inserts), [`IsSpent`](crate::words#isspent), [`Keeps`](crate::words#keeps), [`KeepsSpent`](crate::words#keepsspent), [`Key`](crate::words#key), [`live`](crate::words#live), [`offer`](crate::words#offer), [`pairs`](crate::words#pairs-of-slotmap_secondary-content), [`places`](crate::words#places-of-slotmap_core-content), [`RefusesSpawn`](crate::words#refusesspawn), [`room`](crate::words#room-of-slotmap_core-content), [`SameOrder`](crate::words#sameorder), [`tables`](crate::words#tables).
     pub fn spawn_with<C: Kind<K, T>>(
         &mut self,
         entity: E,

@@ -130,6 +130,8 @@ impl<K: Key, E: Sized, T: Tables<K>> World<K, E, T> {
     ///     (C.table self.new.tables) }
     /// ensures gone { KeepsSpent self.old.entities.content self.new.entities.content }
     /// ```
+    ///
+    /// Words: [`Appends`](crate::words#appends), [`capacity`](crate::words#capacity-of-slotmap_core-content), [`content`](crate::words#content-of-slotmap_dense-dense), [`entities`](crate::words#entities), [`Gains`](crate::words#gains), [`index`](crate::words#index), [`Inserts`](crate::words#inserts), [`IsSpent`](crate::words#isspent), [`Keeps`](crate::words#keeps), [`KeepsSpent`](crate::words#keepsspent), [`live`](crate::words#live), [`offer`](crate::words#offer), [`pairs`](crate::words#pairs-of-slotmap_secondary-content), [`places`](crate::words#places-of-slotmap_core-content), [`RefusesSpawn`](crate::words#refusesspawn), [`room`](crate::words#room-of-slotmap_core-content), [`SameOrder`](crate::words#sameorder), [`tables`](crate::words#tables).
     pub fn spawn_with_three<A: Apart<K, T, B>, B: Apart<K, T, C>, C: Apart<K, T, A>>(
         &mut self,
         entity: E,

@@ -105,6 +105,8 @@ pub trait Table<K: Key>: Sized {
     /// ```text
     /// ensures { result ≡ contains_key (pairs self.now) (K.data_of key) }
     /// ```
+    ///
+    /// Words: [`contains_key`](crate::words#contains_key).
     fn contains_key(&self, key: K) -> bool;
 
     /// Returns the component of an entity, or `None` if it has none here.
@@ -129,6 +131,8 @@ pub trait Table<K: Key>: Sized {
     /// ```text
     /// ensures { option_copied result ≡ get (pairs self.now) (K.data_of key) }
     /// ```
+    ///
+    /// Words: [`get`](crate::words#get).
     fn get(&self, key: K) -> Option<&Self::Component>;
 
     /// Returns a mutable reference to the component of an entity, or `None` if it has none here.
@@ -156,6 +160,8 @@ pub trait Table<K: Key>: Sized {
     /// ensures* writes_back { sem 𝓛 (LendsIf Self.row Self.Component.row self.entry result (with_value self.old (K.data_of key)) self.old) }
     /// ensures value { option_copied_mut result ≡ get (pairs self.old) (K.data_of key) }
     /// ```
+    ///
+    /// Words: [`get`](crate::words#get).
     fn get_mut(&mut self, key: K) -> Option<&mut Self::Component>;
 
     /// Inserts a component, and returns the one that the entity had. If memory runs out, the error
@@ -191,6 +197,8 @@ pub trait Table<K: Key>: Sized {
     /// ensures refused_room { OnErr result ((i count : ℕ) → fits self.old i count → fits self.new i count) }
     /// ensures replaced_room { contains_key (pairs self.old) (K.data_of key) ≡ true → (i count : ℕ) → fits self.old i count → fits self.new i count }
     /// ```
+    ///
+    /// Words: [`contains_key`](crate::words#contains_key), [`get`](crate::words#get), [`index`](crate::words#index), [`put`](crate::words#put), [`RefusesPut`](crate::words#refusesput).
     fn insert(
         &mut self,
         key: K,
@@ -222,6 +230,8 @@ pub trait Table<K: Key>: Sized {
     /// ensures room { (i count : ℕ) → fits self.old i count → fits self.new i count }
     /// ensures capacity { keeps_capacity self.old self.new }
     /// ```
+    ///
+    /// Words: [`get`](crate::words#get), [`remove`](crate::words#remove).
     fn remove(&mut self, key: K) -> Option<Self::Component>;
 
     /// Calls `f` once for each component, which it may change, and removes those for which it returns
@@ -250,6 +260,8 @@ pub trait Table<K: Key>: Sized {
     /// ensures room { (i count : ℕ) → fits self.old i count → fits self.new i count }
     /// ensures capacity { keeps_capacity self.old self.new }
     /// ```
+    ///
+    /// Words: [`CallableOnEach`](crate::words#callableoneach), [`keyed`](crate::words#keyed), [`RetainsBy`](crate::words#retainsby).
     fn retain<F: FnMut(K, &mut Self::Component) -> bool>(&mut self, f: F)
     where
         F: Sized,;

@@ -92,6 +92,8 @@ pub trait Tables<K: Key>: Sized {
     /// ensures empty { IfOk result (λ tables. (q : KeyOf) → has tables q ≡ false) }
     /// ensures err { IfErr result (λ error. error ≡ ReserveError.Memory) }
     /// ```
+    ///
+    /// Words: [`Key`](crate::words#key).
     fn new(alloc: Global) -> Result<Self, ReserveError>;
 
     /// Removes the components of an entity from all tables, and returns them.
@@ -119,6 +121,8 @@ pub trait Tables<K: Key>: Sized {
     /// ensures others { (q : KeyOf) → q ≢ K.data_of key → (has self.new q ≡ has self.old q) × (parts self.new q ≡ parts self.old q) }
     /// ensures room { keeps_room self.old self.new }
     /// ```
+    ///
+    /// Words: [`Key`](crate::words#key).
     fn remove(&mut self, key: K) -> Self::Parts;
 
     /// Removes all components of all entities. Each table has room for as many in all as before.
@@ -145,6 +149,8 @@ pub trait Tables<K: Key>: Sized {
     /// ensures room { keeps_room self.old self.new }
     /// ensures gives_back { gives_back self.old self.new }
     /// ```
+    ///
+    /// Words: [`Key`](crate::words#key).
     fn clear(&mut self);
 
     // An entity without components has nothing in each of them.

@@ -82,6 +82,8 @@ impl<K: Key, N: Sized, E: Sized> Graph<K, N, E> {
     /// ensures same_links { 0 < self.old.nodes.room → self.new.links ≡ self.old.links }
     /// ensures unchanged { OnErr result (Keeps self.old.nodes self.new.nodes) }
     /// ```
+    ///
+    /// Words: [`capacity`](crate::words#capacity-of-slotmap_core-content), [`edges`](crate::words#edges-of-slotmap_graph-parts), [`edges_at`](crate::words#edges_at), [`HasVacant`](crate::words#hasvacant), [`Inserts`](crate::words#inserts), [`into`](crate::words#into), [`IsSpent`](crate::words#isspent), [`Keeps`](crate::words#keeps), [`KeepsSpent`](crate::words#keepsspent), [`links`](crate::words#links-of-slotmap_graph-parts), [`live`](crate::words#live), [`nodes`](crate::words#nodes-of-slotmap_graph-parts), [`out`](crate::words#out), [`Refuses`](crate::words#refuses), [`room`](crate::words#room-of-slotmap_core-content), [`SameEdges`](crate::words#sameedges), [`space`](crate::words#space).
     pub fn add_node(&mut self, node: N) -> Result<K, InsertError<N>>
     {
         if !self.has_node_room() {
@@ -141,6 +143,8 @@ impl<K: Key, N: Sized, E: Sized> Graph<K, N, E> {
     /// ensures nodes { self.new.nodes ≡ self.old.nodes }
     /// ensures gone { KeepsSpent self.old.edges self.new.edges }
     /// ```
+    ///
+    /// Words: [`capacity`](crate::words#capacity-of-slotmap_core-content), [`edges`](crate::words#edges-of-slotmap_graph-parts), [`HasVacant`](crate::words#hasvacant), [`Inserts`](crate::words#inserts), [`into`](crate::words#into), [`IsLive`](crate::words#islive), [`IsSpent`](crate::words#isspent), [`Keeps`](crate::words#keeps), [`KeepsSpent`](crate::words#keepsspent), [`links`](crate::words#links-of-slotmap_graph-parts), [`live`](crate::words#live), [`nodes`](crate::words#nodes-of-slotmap_graph-parts), [`out`](crate::words#out), [`PutsBehind`](crate::words#putsbehind), [`RefusesEdge`](crate::words#refusesedge), [`room`](crate::words#room-of-slotmap_core-content), [`SameEdges`](crate::words#sameedges), [`space`](crate::words#space), [`value`](crate::words#value-of-slotmap_graph-parts).
     pub fn add_edge(&mut self, from: K, to: K, edge: E) -> Result<EdgeKey, EdgeError<E>>
     {
         if !self.contains_node(from) || !self.contains_node(to) {
@@ -191,6 +195,8 @@ impl<K: Key, N: Sized, E: Sized> Graph<K, N, E> {
     /// ensures gone { KeepsSpent self.old.edges self.new.edges }
     /// ensures stale { IfNone result (self.new ≡ self.old) }
     /// ```
+    ///
+    /// Words: [`edges`](crate::words#edges-of-slotmap_graph-parts), [`edges_at`](crate::words#edges_at), [`into`](crate::words#into), [`IsSpent`](crate::words#isspent), [`KeepsSpent`](crate::words#keepsspent), [`Key`](crate::words#key), [`Leaves`](crate::words#leaves), [`links`](crate::words#links-of-slotmap_graph-parts), [`live`](crate::words#live), [`nodes`](crate::words#nodes-of-slotmap_graph-parts), [`out`](crate::words#out), [`Removes`](crate::words#removes), [`space`](crate::words#space), [`value`](crate::words#value-of-slotmap_graph-parts), [`without`](crate::words#without-of-slotmap_bounded-keylists).
     pub fn remove_edge(&mut self, edge: EdgeKey) -> Option<E>
     {
         let removed = self.edges.remove(edge)?;
@@ -245,6 +251,8 @@ impl<K: Key, N: Sized, E: Sized> Graph<K, N, E> {
     /// ensures gone { KeepsSpent self.old.edges self.new.edges }
     /// ensures stale { map.contains_key self.old.nodes.live (K.data_of node) ≡ false → self.new ≡ self.old }
     /// ```
+    ///
+    /// Words: [`avoids`](crate::words#avoids), [`edges`](crate::words#edges-of-slotmap_graph-parts), [`edges_at`](crate::words#edges_at), [`into`](crate::words#into), [`IsSpent`](crate::words#isspent), [`KeepsSpent`](crate::words#keepsspent), [`Key`](crate::words#key), [`Leaves`](crate::words#leaves), [`links`](crate::words#links-of-slotmap_graph-parts), [`live`](crate::words#live), [`nodes`](crate::words#nodes-of-slotmap_graph-parts), [`out`](crate::words#out), [`SeenEdge`](crate::words#seenedge), [`space`](crate::words#space), [`touches`](crate::words#touches).
     pub fn remove_edges_of(&mut self, node: K)
     {
         while let Some(edge) = self.edge_at(node) {
@@ -299,6 +307,8 @@ impl<K: Key, N: Sized, E: Sized> Graph<K, N, E> {
     /// // If there is no such node, nothing changes.
     /// ensures stale { IfNone result (self.new ≡ self.old) }
     /// ```
+    ///
+    /// Words: [`avoids`](crate::words#avoids), [`edges`](crate::words#edges-of-slotmap_graph-parts), [`edges_at`](crate::words#edges_at), [`into`](crate::words#into), [`IsSpent`](crate::words#isspent), [`KeepsSpent`](crate::words#keepsspent), [`Key`](crate::words#key), [`Leaves`](crate::words#leaves), [`links`](crate::words#links-of-slotmap_graph-parts), [`live`](crate::words#live), [`nodes`](crate::words#nodes-of-slotmap_graph-parts), [`out`](crate::words#out), [`Removes`](crate::words#removes), [`SeenEdge`](crate::words#seenedge), [`space`](crate::words#space), [`touches`](crate::words#touches), [`value`](crate::words#value-of-slotmap_graph-parts).
     pub fn remove_node(&mut self, node: K) -> Option<N>
     {
         // by the contract of `node_count`, each edge joins two nodes that exist
@@ -346,6 +356,8 @@ impl<K: Key, N: Sized, E: Sized> Graph<K, N, E> {
     /// ensures out { (k : KeyOf) → edges_at self.new.out k ≡ [] }
     /// ensures into { (k : KeyOf) → edges_at self.new.into k ≡ [] }
     /// ```
+    ///
+    /// Words: [`edges`](crate::words#edges-of-slotmap_graph-parts), [`edges_at`](crate::words#edges_at), [`into`](crate::words#into), [`IsLive`](crate::words#islive), [`IsSpent`](crate::words#isspent), [`KeepsSpent`](crate::words#keepsspent), [`Key`](crate::words#key), [`Leaves`](crate::words#leaves), [`links`](crate::words#links-of-slotmap_graph-parts), [`live`](crate::words#live), [`nodes`](crate::words#nodes-of-slotmap_graph-parts), [`out`](crate::words#out), [`space`](crate::words#space).
     pub fn clear(&mut self)
     {
         self.nodes.clear();

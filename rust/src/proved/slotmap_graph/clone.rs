@@ -53,6 +53,8 @@ impl<K: Key, N: Clone, E: Clone> Graph<K, N, E> {
     /// ensures same_nodes { IfOk result (λ copy. ClonesEqual N.is_clone → IsCopy self.now.nodes copy.nodes) }
     /// ensures same_edges { IfOk result (λ copy. ClonesEqual E.is_clone → IsCopy self.now.edges copy.edges) }
     /// ```
+    ///
+    /// Words: [`bound`](crate::words#bound), [`clones_edge`](crate::words#clones_edge), [`ClonesEqual`](crate::words#clonesequal), [`edges`](crate::words#edges-of-slotmap_graph-parts), [`into`](crate::words#into), [`IsCloneBy`](crate::words#iscloneby), [`IsCopy`](crate::words#iscopy), [`nodes`](crate::words#nodes-of-slotmap_graph-parts), [`out`](crate::words#out), [`room`](crate::words#room-of-slotmap_core-content), [`SameEdges`](crate::words#sameedges).
     pub fn clone(&self) -> Result<Self, AllocError>
     {
         let nodes = self.nodes.clone()?;

@@ -30,6 +30,8 @@ impl<K: Key, N: Sized, E: Sized> Graph<K, N, E> {
     /// ```text
     /// ensures { option_copied result ≡ map.get self.now.nodes.live (K.data_of node) }
     /// ```
+    ///
+    /// Words: [`live`](crate::words#live), [`nodes`](crate::words#nodes-of-slotmap_graph-parts).
     pub fn node(&self, node: K) -> Option<&N>
     {
         self.nodes.get(node)
@@ -59,6 +61,8 @@ impl<K: Key, N: Sized, E: Sized> Graph<K, N, E> {
     /// ensures* writes_back { sem 𝓛 (lends_node K.row N.row E.row self.entry (K.data_of node) result) }
     /// ensures value { option_copied_mut result ≡ map.get self.old.nodes.live (K.data_of node) }
     /// ```
+    ///
+    /// Words: [`lends_node`](crate::words#lends_node), [`live`](crate::words#live), [`nodes`](crate::words#nodes-of-slotmap_graph-parts), [`value`](crate::words#value-of-slotmap_graph-parts).
     pub fn node_mut(&mut self, node: K) -> Option<&mut N>
     {
         match self.nodes.get_mut(node) {
@@ -89,6 +93,8 @@ impl<K: Key, N: Sized, E: Sized> Graph<K, N, E> {
     /// ```text
     /// ensures { option_copied result ≡ option_map value (map.get self.now.edges.live edge) }
     /// ```
+    ///
+    /// Words: [`edges`](crate::words#edges-of-slotmap_graph-parts), [`live`](crate::words#live), [`value`](crate::words#value-of-slotmap_graph-parts).
     pub fn edge(&self, edge: EdgeKey) -> Option<&E>
     {
         Some(self.edges.get(edge)?.value())
@@ -119,6 +125,8 @@ impl<K: Key, N: Sized, E: Sized> Graph<K, N, E> {
     /// ensures* writes_back { sem 𝓛 (lends_edge K.row N.row E.row self.entry edge result) }
     /// ensures value { option_copied_mut result ≡ option_map value (map.get self.old.edges.live edge) }
     /// ```
+    ///
+    /// Words: [`edges`](crate::words#edges-of-slotmap_graph-parts), [`lends_edge`](crate::words#lends_edge), [`live`](crate::words#live), [`value`](crate::words#value-of-slotmap_graph-parts).
     pub fn edge_mut(&mut self, edge: EdgeKey) -> Option<&mut E>
     {
         match self.edges.get_mut(edge) {
@@ -151,6 +159,8 @@ impl<K: Key, N: Sized, E: Sized> Graph<K, N, E> {
     /// ensures ends { option_map (both K.data_of) result ≡ option_map ends (map.get self.now.edges.live edge) }
     /// ensures live { IfSome result (λ ends. IsLive self.now.nodes (K.data_of ends.0) × IsLive self.now.nodes (K.data_of ends.1)) }
     /// ```
+    ///
+    /// Words: [`both`](crate::words#both), [`edges`](crate::words#edges-of-slotmap_graph-parts), [`ends`](crate::words#ends), [`IsLive`](crate::words#islive), [`live`](crate::words#live), [`nodes`](crate::words#nodes-of-slotmap_graph-parts).
     pub fn edge_ends(&self, edge: EdgeKey) -> Option<(K, K)>
     {
         let (from, to) = self.edges.get(edge)?.ends();
@@ -189,6 +199,8 @@ impl<K: Key, N: Sized, E: Sized> Graph<K, N, E> {
     /// ensures in_order { result ≡ edges_at self.now.out (K.data_of node) }
     /// ensures listed { ListsEdges from self.now.edges.live (K.data_of node) result }
     /// ```
+    ///
+    /// Words: [`edges`](crate::words#edges-of-slotmap_graph-parts), [`edges_at`](crate::words#edges_at), [`from`](crate::words#from), [`ListsEdges`](crate::words#listsedges), [`live`](crate::words#live), [`out`](crate::words#out).
     pub fn edges_from(&self, node: K) -> EdgesAt<'_, E>
     {
         edges_of(&self.nodes, &self.edges, &self.out, node)
@@ -220,6 +232,8 @@ impl<K: Key, N: Sized, E: Sized> Graph<K, N, E> {
     /// ensures in_order { result ≡ edges_at self.now.into (K.data_of node) }
     /// ensures listed { ListsEdges to self.now.edges.live (K.data_of node) result }
     /// ```
+    ///
+    /// Words: [`edges`](crate::words#edges-of-slotmap_graph-parts), [`edges_at`](crate::words#edges_at), [`into`](crate::words#into), [`ListsEdges`](crate::words#listsedges), [`live`](crate::words#live), [`to`](crate::words#to).
     pub fn edges_to(&self, node: K) -> EdgesAt<'_, E>
     {
         edges_of(&self.nodes, &self.edges, &self.into, node)
@@ -247,6 +261,8 @@ impl<K: Key, N: Sized, E: Sized> Graph<K, N, E> {
     /// ```text
     /// ensures { result ≡ length (edges_at self.now.out (K.data_of node)) }
     /// ```
+    ///
+    /// Words: [`edges_at`](crate::words#edges_at), [`out`](crate::words#out).
     pub fn out_degree(&self, node: K) -> usize
     {
         self.edges_from(node).len()
@@ -274,6 +290,8 @@ impl<K: Key, N: Sized, E: Sized> Graph<K, N, E> {
     /// ```text
     /// ensures { result ≡ length (edges_at self.now.into (K.data_of node)) }
     /// ```
+    ///
+    /// Words: [`edges_at`](crate::words#edges_at), [`into`](crate::words#into).
     pub fn in_degree(&self, node: K) -> usize
     {
         self.edges_to(node).len()

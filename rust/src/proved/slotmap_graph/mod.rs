@@ -135,6 +135,8 @@ impl<N: Sized, E: Sized> Graph<NodeKey, N, E> {
     /// ensures edges { IfOk result (λ graph. IsNew graph.edges) }
     /// ensures err { IfErr result (λ error. error ≡ ReserveError.Memory) }
     /// ```
+    ///
+    /// Words: [`edges`](crate::words#edges-of-slotmap_graph-parts), [`IsNew`](crate::words#isnew), [`nodes`](crate::words#nodes-of-slotmap_graph-parts).
     pub fn new(alloc: Global) -> Result<Self, ReserveError>
     {
         Graph::with_key(alloc)
@@ -166,6 +168,8 @@ impl<N: Sized, E: Sized> Graph<NodeKey, N, E> {
     /// ensures edge_room { IfOk result (λ graph. edges ≤ graph.edges.room) }
     /// ensures err { IfErr result (RefusesEither nodes edges) }
     /// ```
+    ///
+    /// Words: [`edges`](crate::words#edges-of-slotmap_graph-parts), [`IsNew`](crate::words#isnew), [`nodes`](crate::words#nodes-of-slotmap_graph-parts), [`RefusesEither`](crate::words#refuseseither), [`room`](crate::words#room-of-slotmap_core-content).
     pub fn with_capacity(alloc: Global, nodes: usize, edges: usize) -> Result<Self, ReserveError>
     {
         Graph::with_capacity_and_key(alloc, nodes, edges)
@@ -195,6 +199,8 @@ impl<K: Key, N: Sized, E: Sized> Graph<K, N, E> {
     /// ensures edges { IfOk result (λ graph. IsNew graph.edges) }
     /// ensures err { IfErr result (λ error. error ≡ ReserveError.Memory) }
     /// ```
+    ///
+    /// Words: [`edges`](crate::words#edges-of-slotmap_graph-parts), [`IsNew`](crate::words#isnew), [`nodes`](crate::words#nodes-of-slotmap_graph-parts).
     pub fn with_key(alloc: Global) -> Result<Self, ReserveError>
     {
         Graph::with_capacity_and_key(alloc, 0, 0)
@@ -226,6 +232,8 @@ impl<K: Key, N: Sized, E: Sized> Graph<K, N, E> {
     /// ensures edge_room { IfOk result (λ graph. edges ≤ graph.edges.room) }
     /// ensures err { IfErr result (RefusesEither nodes edges) }
     /// ```
+    ///
+    /// Words: [`edges`](crate::words#edges-of-slotmap_graph-parts), [`IsNew`](crate::words#isnew), [`nodes`](crate::words#nodes-of-slotmap_graph-parts), [`RefusesEither`](crate::words#refuseseither), [`room`](crate::words#room-of-slotmap_core-content).
     pub fn with_capacity_and_key(
         alloc: Global,
         nodes: usize,
@@ -277,6 +285,8 @@ impl<K: Key, N: Sized, E: Sized> Graph<K, N, E> {
     /// ensures out { SameEdges self.old.out self.new.out }
     /// ensures into { SameEdges self.old.into self.new.into }
     /// ```
+    ///
+    /// Words: [`edges`](crate::words#edges-of-slotmap_graph-parts), [`into`](crate::words#into), [`MakesRoom`](crate::words#makesroom), [`next`](crate::words#next), [`nodes`](crate::words#nodes-of-slotmap_graph-parts), [`out`](crate::words#out), [`RefusesCapacity`](crate::words#refusescapacity), [`room`](crate::words#room-of-slotmap_core-content), [`SameEdges`](crate::words#sameedges), [`used`](crate::words#used).
     #[inline(never)]
     pub fn reserve_nodes(&mut self, additional: usize) -> Result<(), ReserveError>
     {
@@ -316,6 +326,8 @@ impl<K: Key, N: Sized, E: Sized> Graph<K, N, E> {
     /// ensures out { SameEdges self.old.out self.new.out }
     /// ensures into { SameEdges self.old.into self.new.into }
     /// ```
+    ///
+    /// Words: [`edges`](crate::words#edges-of-slotmap_graph-parts), [`into`](crate::words#into), [`MakesRoom`](crate::words#makesroom), [`next`](crate::words#next), [`nodes`](crate::words#nodes-of-slotmap_graph-parts), [`out`](crate::words#out), [`RefusesCapacity`](crate::words#refusescapacity), [`room`](crate::words#room-of-slotmap_core-content), [`SameEdges`](crate::words#sameedges), [`used`](crate::words#used).
     #[inline(never)]
     pub fn reserve_edges(&mut self, additional: usize) -> Result<(), ReserveError>
     {
@@ -345,6 +357,8 @@ impl<K: Key, N: Sized, E: Sized> Graph<K, N, E> {
     /// ensures exact { result ≡ used self.now.nodes + self.now.nodes.room }
     /// ensures valid { IsContent true self.now.nodes }
     /// ```
+    ///
+    /// Words: [`bound`](crate::words#bound), [`IsContent`](crate::words#iscontent), [`nodes`](crate::words#nodes-of-slotmap_graph-parts), [`room`](crate::words#room-of-slotmap_core-content), [`used`](crate::words#used).
     pub fn node_capacity(&self) -> usize
     {
         self.nodes.capacity()
@@ -371,6 +385,8 @@ impl<K: Key, N: Sized, E: Sized> Graph<K, N, E> {
     /// ensures exact { result ≡ used self.now.edges + self.now.edges.room }
     /// ensures valid { IsContent true self.now.edges }
     /// ```
+    ///
+    /// Words: [`bound`](crate::words#bound), [`edges`](crate::words#edges-of-slotmap_graph-parts), [`IsContent`](crate::words#iscontent), [`room`](crate::words#room-of-slotmap_core-content), [`used`](crate::words#used).
     pub fn edge_capacity(&self) -> usize
     {
         self.edges.capacity()
@@ -398,6 +414,8 @@ impl<K: Key, N: Sized, E: Sized> Graph<K, N, E> {
     /// ensures value { result ≡ map.len self.now.nodes.live }
     /// ensures joined { IsJoined self.now }
     /// ```
+    ///
+    /// Words: [`IsJoined`](crate::words#isjoined), [`live`](crate::words#live), [`nodes`](crate::words#nodes-of-slotmap_graph-parts).
     pub fn node_count(&self) -> usize
     {
         self.nodes.len()
@@ -422,6 +440,8 @@ impl<K: Key, N: Sized, E: Sized> Graph<K, N, E> {
     /// ensures nodes { IsTrue result ↔ (map.len self.now.nodes.live ≡ 0) }
     /// ensures edges { IsTrue result → map.len self.now.edges.live ≡ 0 }
     /// ```
+    ///
+    /// Words: [`edges`](crate::words#edges-of-slotmap_graph-parts), [`live`](crate::words#live), [`nodes`](crate::words#nodes-of-slotmap_graph-parts).
     pub fn is_empty(&self) -> bool
     {
         self.node_count() == 0
@@ -450,6 +470,8 @@ impl<K: Key, N: Sized, E: Sized> Graph<K, N, E> {
     /// ensures value { result ≡ map.len self.now.edges.live }
     /// ensures joined { IsJoined self.now }
     /// ```
+    ///
+    /// Words: [`edges`](crate::words#edges-of-slotmap_graph-parts), [`IsJoined`](crate::words#isjoined), [`live`](crate::words#live).
     pub fn edge_count(&self) -> usize
     {
         self.edges.len()
@@ -476,6 +498,8 @@ impl<K: Key, N: Sized, E: Sized> Graph<K, N, E> {
     /// ```text
     /// ensures { result ≡ map.contains_key self.now.nodes.live (K.data_of node) }
     /// ```
+    ///
+    /// Words: [`live`](crate::words#live), [`nodes`](crate::words#nodes-of-slotmap_graph-parts).
     pub fn contains_node(&self, node: K) -> bool
     {
         self.nodes.contains_key(node)
@@ -503,6 +527,8 @@ impl<K: Key, N: Sized, E: Sized> Graph<K, N, E> {
     /// ```text
     /// ensures { result ≡ map.contains_key self.now.edges.live edge }
     /// ```
+    ///
+    /// Words: [`edges`](crate::words#edges-of-slotmap_graph-parts), [`live`](crate::words#live).
     pub fn contains_edge(&self, edge: EdgeKey) -> bool
     {
         self.edges.contains_key(edge)
@@ -533,6 +559,8 @@ impl<K: Key, N: Sized, E: Sized> Graph<K, N, E> {
     /// ```text
     /// ensures { result ≡ map.keys self.now.nodes.live }
     /// ```
+    ///
+    /// Words: [`live`](crate::words#live), [`nodes`](crate::words#nodes-of-slotmap_graph-parts).
     pub fn nodes(&self) -> Keys<'_, K, N>
     {
         self.nodes.keys()
@@ -562,6 +590,8 @@ impl<K: Key, N: Sized, E: Sized> Graph<K, N, E> {
     /// ```text
     /// ensures { result ≡ map.keys self.now.edges.live }
     /// ```
+    ///
+    /// Words: [`edges`](crate::words#edges-of-slotmap_graph-parts), [`live`](crate::words#live).
     pub fn edges(&self) -> Keys<'_, EdgeKey, Edge<E>>
     {
         self.edges.keys()

@@ -72,6 +72,8 @@ impl<K: Key, N: Sized, E: Sized> Graph<K, N, E> {
     /// ensures in_order { result ≡ ends_along to self.now.edges.live (edges_at self.now.out (K.data_of node)) }
     /// ensures live { All (IsLive self.now.nodes) result }
     /// ```
+    ///
+    /// Words: [`edges`](crate::words#edges-of-slotmap_graph-parts), [`edges_at`](crate::words#edges_at), [`ends_along`](crate::words#ends_along), [`IsLive`](crate::words#islive), [`live`](crate::words#live), [`nodes`](crate::words#nodes-of-slotmap_graph-parts), [`out`](crate::words#out), [`to`](crate::words#to).
     pub fn neighbours_from(&self, node: K) -> Neighbours<'_, K, E>
     {
         neighbours_of(Direction::Out, &self.nodes, &self.edges, &self.out, node)
@@ -105,6 +107,8 @@ impl<K: Key, N: Sized, E: Sized> Graph<K, N, E> {
     /// ensures in_order { result ≡ ends_along from self.now.edges.live (edges_at self.now.into (K.data_of node)) }
     /// ensures live { All (IsLive self.now.nodes) result }
     /// ```
+    ///
+    /// Words: [`edges`](crate::words#edges-of-slotmap_graph-parts), [`edges_at`](crate::words#edges_at), [`ends_along`](crate::words#ends_along), [`from`](crate::words#from), [`into`](crate::words#into), [`IsLive`](crate::words#islive), [`live`](crate::words#live), [`nodes`](crate::words#nodes-of-slotmap_graph-parts).
     pub fn neighbours_to(&self, node: K) -> Neighbours<'_, K, E>
     {
         neighbours_of(Direction::Into, &self.nodes, &self.edges, &self.into, node)

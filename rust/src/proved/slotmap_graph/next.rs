@@ -52,6 +52,8 @@ impl<K: Key, N: Sized, E: Sized> Graph<K, N, E> {
     /// ensures none { IfNone result ((other : KeyOf) → IsLive self.now.nodes other → other.index < index_after K.data_of node) }
     /// ensures valid { IsContent true self.now.nodes }
     /// ```
+    ///
+    /// Words: [`index`](crate::words#index), [`index_after`](crate::words#index_after), [`IsContent`](crate::words#iscontent), [`IsLive`](crate::words#islive), [`Key`](crate::words#key), [`nodes`](crate::words#nodes-of-slotmap_graph-parts).
     pub fn next_node(&self, node: Option<K>) -> Option<K>
     {
         self.nodes.next_after(node)
@@ -88,6 +90,8 @@ impl<K: Key, N: Sized, E: Sized> Graph<K, N, E> {
     /// ensures none { IfNone result ((other : KeyOf) → IsLive self.now.edges other → other.index < index_after (λ e. e) edge) }
     /// ensures valid { IsContent true self.now.edges }
     /// ```
+    ///
+    /// Words: [`edges`](crate::words#edges-of-slotmap_graph-parts), [`index`](crate::words#index), [`index_after`](crate::words#index_after), [`IsContent`](crate::words#iscontent), [`IsLive`](crate::words#islive), [`Key`](crate::words#key).
     pub fn next_edge(&self, edge: Option<EdgeKey>) -> Option<EdgeKey>
     {
         self.edges.next_after(edge)
@@ -121,6 +125,8 @@ impl<K: Key, N: Sized, E: Sized> Graph<K, N, E> {
     /// ensures first { result ≡ first_or (edges_at self.now.out (K.data_of node)) None }
     /// ensures listed { ListsEdges from self.now.edges.live (K.data_of node) (edges_at self.now.out (K.data_of node)) }
     /// ```
+    ///
+    /// Words: [`edges`](crate::words#edges-of-slotmap_graph-parts), [`edges_at`](crate::words#edges_at), [`first_or`](crate::words#first_or-of-slotmap_links-lists), [`from`](crate::words#from), [`ListsEdges`](crate::words#listsedges), [`live`](crate::words#live), [`out`](crate::words#out).
     pub fn first_from(&self, node: K) -> Option<EdgeKey>
     {
         self.edges_from(node).next()
@@ -153,6 +159,8 @@ impl<K: Key, N: Sized, E: Sized> Graph<K, N, E> {
     /// ensures first { result ≡ first_or (edges_at self.now.into (K.data_of node)) None }
     /// ensures listed { ListsEdges to self.now.edges.live (K.data_of node) (edges_at self.now.into (K.data_of node)) }
     /// ```
+    ///
+    /// Words: [`edges`](crate::words#edges-of-slotmap_graph-parts), [`edges_at`](crate::words#edges_at), [`first_or`](crate::words#first_or-of-slotmap_links-lists), [`into`](crate::words#into), [`ListsEdges`](crate::words#listsedges), [`live`](crate::words#live), [`to`](crate::words#to).
     pub fn first_to(&self, node: K) -> Option<EdgeKey>
     {
         self.edges_to(node).next()
@@ -185,6 +193,8 @@ impl<K: Key, N: Sized, E: Sized> Graph<K, N, E> {
     /// ensures value { result ≡ option_and_then (λ e. key_after edge (edges_at self.now.out (from e))) (map.get self.now.edges.live edge) }
     /// ensures along { (node : KeyOf) → 0 < times edge (edges_at self.now.out node) → result ≡ key_after edge (edges_at self.now.out node) }
     /// ```
+    ///
+    /// Words: [`edges`](crate::words#edges-of-slotmap_graph-parts), [`edges_at`](crate::words#edges_at), [`from`](crate::words#from), [`Key`](crate::words#key), [`key_after`](crate::words#key_after-of-slotmap_graph-parts), [`live`](crate::words#live), [`out`](crate::words#out), [`times`](crate::words#times).
     pub fn next_from(&self, edge: EdgeKey) -> Option<EdgeKey>
     {
         next_of::<N, E>(&self.edges, &self.out, edge)
@@ -217,6 +227,8 @@ impl<K: Key, N: Sized, E: Sized> Graph<K, N, E> {
     /// ensures value { result ≡ option_and_then (λ e. key_after edge (edges_at self.now.into (to e))) (map.get self.now.edges.live edge) }
     /// ensures along { (node : KeyOf) → 0 < times edge (edges_at self.now.into node) → result ≡ key_after edge (edges_at self.now.into node) }
     /// ```
+    ///
+    /// Words: [`edges`](crate::words#edges-of-slotmap_graph-parts), [`edges_at`](crate::words#edges_at), [`into`](crate::words#into), [`Key`](crate::words#key), [`key_after`](crate::words#key_after-of-slotmap_graph-parts), [`live`](crate::words#live), [`times`](crate::words#times), [`to`](crate::words#to).
     pub fn next_to(&self, edge: EdgeKey) -> Option<EdgeKey>
     {
         next_of::<N, E>(&self.edges, &self.into, edge)

@@ -51,6 +51,8 @@ impl OrderError {
     /// ```text
     /// ensures { result ≡ edge_in self.now }
     /// ```
+    ///
+    /// Words: [`edge_in`](crate::words#edge_in).
     pub fn edge(&self) -> Option<EdgeKey>
     {
         match self {
@@ -214,6 +216,8 @@ impl<K: Key, N: Sized, E: Sized> Graph<K, N, E> {
     /// ensures acyclic { IfOk result (λ found. HasCycle self.now.edges.live → ⊥) }
     /// ensures err { IfErr result (RefusesOrder self.now.edges.live) }
     /// ```
+    ///
+    /// Words: [`edges`](crate::words#edges-of-slotmap_graph-parts), [`GoesForward`](crate::words#goesforward), [`HasCycle`](crate::words#hascycle), [`Key`](crate::words#key), [`live`](crate::words#live), [`nodes`](crate::words#nodes-of-slotmap_graph-parts), [`RefusesOrder`](crate::words#refusesorder), [`times`](crate::words#times).
     pub fn topological_order(&self, alloc: Global) -> Result<Vec<K>, OrderError>
     {
         let mut found = Vec::with_capacity(alloc, self.nodes.len())?;

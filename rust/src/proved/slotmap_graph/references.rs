@@ -116,6 +116,8 @@ impl<K: Key, N: Sized, E: Sized> Graph<K, N, E> {
     /// ensures live { All (λ e. IsLive self.now.nodes e.1.from × IsLive self.now.nodes e.1.to) result }
     /// ensures only { All (λ e. map.get self.now.edges.live e.0 ≡ Some e.1) result }
     /// ```
+    ///
+    /// Words: [`edges`](crate::words#edges-of-slotmap_graph-parts), [`from`](crate::words#from), [`IsLive`](crate::words#islive), [`live`](crate::words#live), [`nodes`](crate::words#nodes-of-slotmap_graph-parts), [`to`](crate::words#to).
     pub fn edge_references(&self) -> EdgeReferences<'_, K, E>
     {
         EdgeReferences {
@@ -153,6 +155,8 @@ impl<K: Key, N: Sized, E: Sized> Graph<K, N, E> {
     /// ensures live { All (λ e. IsLive self.now.nodes e.1.from × IsLive self.now.nodes e.1.to) result }
     /// ensures only { All (λ e. (map.get self.now.edges.live e.0 ≡ Some e.1) × (e.1.from ≡ K.data_of node)) result }
     /// ```
+    ///
+    /// Words: [`edges`](crate::words#edges-of-slotmap_graph-parts), [`edges_at`](crate::words#edges_at), [`entries_along`](crate::words#entries_along), [`from`](crate::words#from), [`IsLive`](crate::words#islive), [`live`](crate::words#live), [`nodes`](crate::words#nodes-of-slotmap_graph-parts), [`out`](crate::words#out), [`to`](crate::words#to).
     pub fn edge_references_from(&self, node: K) -> EdgeReferencesAt<'_, K, E>
     {
         references_of(&self.nodes, &self.edges, &self.out, node)
@@ -187,6 +191,8 @@ impl<K: Key, N: Sized, E: Sized> Graph<K, N, E> {
     /// ensures live { All (λ e. IsLive self.now.nodes e.1.from × IsLive self.now.nodes e.1.to) result }
     /// ensures only { All (λ e. (map.get self.now.edges.live e.0 ≡ Some e.1) × (e.1.to ≡ K.data_of node)) result }
     /// ```
+    ///
+    /// Words: [`edges`](crate::words#edges-of-slotmap_graph-parts), [`edges_at`](crate::words#edges_at), [`entries_along`](crate::words#entries_along), [`from`](crate::words#from), [`into`](crate::words#into), [`IsLive`](crate::words#islive), [`live`](crate::words#live), [`nodes`](crate::words#nodes-of-slotmap_graph-parts), [`to`](crate::words#to).
     pub fn edge_references_to(&self, node: K) -> EdgeReferencesAt<'_, K, E>
     {
         references_of(&self.nodes, &self.edges, &self.into, node)
@@ -215,6 +221,8 @@ impl<K: Key, N: Sized, E: Sized> Graph<K, N, E> {
     /// ```text
     /// ensures { result ≡ map.entries self.now.nodes.live }
     /// ```
+    ///
+    /// Words: [`live`](crate::words#live), [`nodes`](crate::words#nodes-of-slotmap_graph-parts).
     pub fn node_references(&self) -> basic::Iter<'_, K, N>
     {
         self.nodes.iter()

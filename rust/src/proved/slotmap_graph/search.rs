@@ -75,6 +75,8 @@ impl<K: Key, N: Sized, E: Sized> Graph<K, N, E> {
     /// ```text
     /// ensures { IfOk result (λ found. list_map K.data_of found.items ≡ ends_along to self.now.edges.live (edges_at self.now.out (K.data_of node))) }
     /// ```
+    ///
+    /// Words: [`edges`](crate::words#edges-of-slotmap_graph-parts), [`edges_at`](crate::words#edges_at), [`ends_along`](crate::words#ends_along), [`live`](crate::words#live), [`out`](crate::words#out), [`to`](crate::words#to).
     pub fn neighbours(&self, alloc: Global, node: K) -> Result<Vec<K>, AllocError>
     {
         let mut found = Vec::new(alloc);
@@ -108,6 +110,8 @@ impl<K: Key, N: Sized, E: Sized> Graph<K, N, E> {
     /// ensures first { result ≡ find (goes_to self.now.edges.live (K.data_of to)) (edges_at self.now.out (K.data_of from)) }
     /// ensures listed { ListsEdges (λ e. e.from) self.now.edges.live (K.data_of from) (edges_at self.now.out (K.data_of from)) }
     /// ```
+    ///
+    /// Words: [`edges`](crate::words#edges-of-slotmap_graph-parts), [`edges_at`](crate::words#edges_at), [`from`](crate::words#from), [`goes_to`](crate::words#goes_to), [`ListsEdges`](crate::words#listsedges), [`live`](crate::words#live), [`out`](crate::words#out), [`to`](crate::words#to).
     pub fn find_edge(&self, from: K, to: K) -> Option<EdgeKey>
     {
         let to = inner(to);
@@ -169,6 +173,8 @@ impl<K: Key, N: Sized, E: Sized> Graph<K, N, E> {
     /// ensures in_order { IfOk result (λ found. IsLive self.now.nodes (K.data_of from)
     ///     → IsBreadthFirst (λ k. ends_along to self.now.edges.live (edges_at self.now.out k)) (K.data_of from) (list_map K.data_of found.items)) }
     /// ```
+    ///
+    /// Words: [`edges`](crate::words#edges-of-slotmap_graph-parts), [`edges_at`](crate::words#edges_at), [`ends_along`](crate::words#ends_along), [`from`](crate::words#from), [`IsBreadthFirst`](crate::words#isbreadthfirst), [`IsLive`](crate::words#islive), [`Key`](crate::words#key), [`Leads`](crate::words#leads), [`live`](crate::words#live), [`nodes`](crate::words#nodes-of-slotmap_graph-parts), [`out`](crate::words#out), [`times`](crate::words#times), [`to`](crate::words#to).
     pub fn reachable(&self, alloc: Global, from: K) -> Result<Vec<K>, AllocError>
     {
         let mut found = Vec::new(alloc);

@@ -52,6 +52,8 @@ impl<K: Key, V: Sized> HopSlotMap<K, V> {
     /// ensures value { result ≡ map.contains_key self.now.content.live (K.data_of key) }
     /// ensures valid { IsHopContent self.now }
     /// ```
+    ///
+    /// Words: [`content`](crate::words#content-of-slotmap_hop-hopcontent), [`IsHopContent`](crate::words#ishopcontent), [`live`](crate::words#live).
     #[inline]
     pub fn contains_key(&self, key: K) -> bool
     {
@@ -83,6 +85,8 @@ impl<K: Key, V: Sized> HopSlotMap<K, V> {
     /// ensures value { option_copied result ≡ map.get self.now.content.live (K.data_of key) }
     /// ensures valid { IsHopContent self.now }
     /// ```
+    ///
+    /// Words: [`content`](crate::words#content-of-slotmap_hop-hopcontent), [`IsHopContent`](crate::words#ishopcontent), [`live`](crate::words#live).
     #[inline]
     pub fn get(&self, key: K) -> Option<&V>
     {
@@ -121,6 +125,8 @@ impl<K: Key, V: Sized> HopSlotMap<K, V> {
     /// ensures value { map.get self.now.content.live (K.data_of key) ≡ Some result.now }
     /// ensures valid { IsHopContent self.now }
     /// ```
+    ///
+    /// Words: [`content`](crate::words#content-of-slotmap_hop-hopcontent), [`IsHopContent`](crate::words#ishopcontent), [`IsLive`](crate::words#islive), [`live`](crate::words#live).
     #[inline]
     pub fn get_unchecked(&self, key: K) -> &V
     {
@@ -164,6 +170,8 @@ impl<K: Key, V: Sized> HopSlotMap<K, V> {
     /// ensures value { option_copied_mut result ≡ map.get self.old.content.live (K.data_of key) }
     /// ensures valid { IsHopContent self.old }
     /// ```
+    ///
+    /// Words: [`content`](crate::words#content-of-slotmap_hop-hopcontent), [`IsHopContent`](crate::words#ishopcontent), [`lends_get`](crate::words#lends_get-of-slotmap_hop-lends), [`live`](crate::words#live).
     #[inline]
     pub fn get_mut(&mut self, key: K) -> Option<&mut V>
     {
@@ -201,6 +209,8 @@ impl<K: Key, V: Sized> HopSlotMap<K, V> {
     /// ensures value { map.get self.old.content.live (K.data_of key) ≡ Some result.now }
     /// ensures valid { IsHopContent self.old }
     /// ```
+    ///
+    /// Words: [`content`](crate::words#content-of-slotmap_hop-hopcontent), [`IsHopContent`](crate::words#ishopcontent), [`IsLive`](crate::words#islive), [`lends_value`](crate::words#lends_value-of-slotmap_hop-lends), [`live`](crate::words#live).
     #[inline]
     pub fn get_unchecked_mut(&mut self, key: K) -> &mut V
     {
@@ -244,6 +254,8 @@ impl<K: Key, V: Sized> HopSlotMap<K, V> {
     /// ensures unchanged { OnErr result (self.new ≡ self.old) }
     /// ensures valid { StaysHop self.old self.new }
     /// ```
+    ///
+    /// Words: [`content`](crate::words#content-of-slotmap_hop-hopcontent), [`hop_with_value`](crate::words#hop_with_value), [`live`](crate::words#live), [`StaysHop`](crate::words#stayshop).
     #[inline]
     pub fn replace(&mut self, key: K, value: V) -> Result<V, V>
     {
@@ -287,6 +299,8 @@ impl<K: Key, V: Sized> HopSlotMap<K, V> {
     ///
     /// ensures valid { StaysHop self.old self.new }
     /// ```
+    ///
+    /// Words: [`AreValuesOf`](crate::words#arevaluesof-of-slotmap_core-disjoint), [`CanReplace`](crate::words#canreplace-of-slotmap_core-disjoint), [`content`](crate::words#content-of-slotmap_hop-hopcontent), [`hop_with_values`](crate::words#hop_with_values), [`StaysHop`](crate::words#stayshop).
     #[inline]
     pub fn replace_disjoint<const N: usize>(
         &mut self,
@@ -378,6 +392,8 @@ impl<K: Key, V: Sized> IndexMut<K> for HopSlotMap<K, V> {
     /// ensures value { map.get self.old.content.live (K.data_of key) ≡ Some result.now }
     /// ensures valid { IsHopContent self.old }
     /// ```
+    ///
+    /// Words: [`content`](crate::words#content-of-slotmap_hop-hopcontent), [`IsHopContent`](crate::words#ishopcontent), [`IsLive`](crate::words#islive), [`lends_value`](crate::words#lends_value-of-slotmap_hop-lends), [`live`](crate::words#live).
     #[inline]
     fn index_mut(&mut self, key: K) -> &mut V
     {

@@ -38,6 +38,8 @@ impl<K: Key, V: Sized> HopSlotMap<K, V> {
     /// ensures blocks { self.new.blocks ≡ blocks_without_all self.old (map.keys self.old.content.live) }
     /// ensures valid { StaysHop self.old self.new }
     /// ```
+    ///
+    /// Words: [`blocks`](crate::words#blocks-of-slotmap_hop-hopcontent), [`blocks_without_all`](crate::words#blocks_without_all), [`content`](crate::words#content-of-slotmap_hop-hopcontent), [`Leaves`](crate::words#leaves), [`live`](crate::words#live), [`StaysHop`](crate::words#stayshop).
     #[inline]
     pub fn clear(&mut self)
     {
@@ -107,6 +109,8 @@ impl<K: Key, V: Sized> HopSlotMap<K, V> {
     /// ensures unchanged { OnErr result (out.new.items ≡ out.old.items) }
     /// ensures valid { IsHopContent self.now }
     /// ```
+    ///
+    /// Words: [`content`](crate::words#content-of-slotmap_hop-hopcontent), [`IsHopContent`](crate::words#ishopcontent), [`live`](crate::words#live).
     #[inline]
     pub fn keys_into(&self, out: &mut Vec<K>) -> Result<(), OutOfMemory>
     {
@@ -152,6 +156,8 @@ impl<K: Key, V: Sized> HopSlotMap<K, V> {
     /// ensures unchanged { OnErr result ((self.new ≡ self.old) × (out.new.items ≡ out.old.items)) }
     /// ensures valid { StaysHop self.old self.new }
     /// ```
+    ///
+    /// Words: [`blocks`](crate::words#blocks-of-slotmap_hop-hopcontent), [`blocks_without_all`](crate::words#blocks_without_all), [`content`](crate::words#content-of-slotmap_hop-hopcontent), [`Leaves`](crate::words#leaves), [`live`](crate::words#live), [`StaysHop`](crate::words#stayshop).
     #[inline]
     pub fn drain_into(&mut self, out: &mut Vec<(K, V)>) -> Result<(), OutOfMemory>
     {

@@ -75,6 +75,8 @@ impl<K: Key, V: Clone> HopSlotMap<K, V> {
     ///
     /// ensures valid { IfOk result IsHopContent }
     /// ```
+    ///
+    /// Words: [`blocks`](crate::words#blocks-of-slotmap_hop-hopcontent), [`ClonesEqual`](crate::words#clonesequal), [`content`](crate::words#content-of-slotmap_hop-hopcontent), [`IsCloneBy`](crate::words#iscloneby), [`IsCopy`](crate::words#iscopy), [`IsHopContent`](crate::words#ishopcontent).
     #[inline]
     pub fn clone(&self) -> Result<Self, AllocError>
     {
@@ -121,6 +123,8 @@ impl<K: Key, V: Clone> HopSlotMap<K, V> {
     /// ensures unchanged { OnErr result (self.new ≡ self.old) }
     /// ensures valid { OnOk result (IsHopContent self.new) }
     /// ```
+    ///
+    /// Words: [`blocks`](crate::words#blocks-of-slotmap_hop-hopcontent), [`ClonesEqual`](crate::words#clonesequal), [`content`](crate::words#content-of-slotmap_hop-hopcontent), [`IsCloneBy`](crate::words#iscloneby), [`IsCopy`](crate::words#iscopy), [`IsHopContent`](crate::words#ishopcontent).
     #[inline]
     pub fn clone_from(&mut self, source: &Self) -> Result<(), AllocError>
     where

@@ -106,6 +106,8 @@ impl<K: Key, V: Sized> HopSlotMap<K, V> {
     ///
     /// ensures valid { IsHopContent self.old }
     /// ```
+    ///
+    /// Words: [`EmptiesMap`](crate::words#emptiesmap), [`hop_drain_live`](crate::words#hop_drain_live), [`hop_drain_loan`](crate::words#hop_drain_loan), [`HopDrainCanStep`](crate::words#hopdraincanstep), [`HopDrainSteps`](crate::words#hopdrainsteps), [`InOrderAlong`](crate::words#inorderalong), [`IsHopContent`](crate::words#ishopcontent), [`KeepsAlong`](crate::words#keepsalong), [`KeepsLoan`](crate::words#keepsloan), [`ListsAlong`](crate::words#listsalong).
     #[inline]
     pub fn drain(&mut self) -> Drain<'_, K, V>
     {

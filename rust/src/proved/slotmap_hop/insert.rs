@@ -114,6 +114,8 @@ impl<K: Key, V: Sized> HopSlotMap<K, V> {
     ///
     /// ensures valid { GrowsHop self.old self.new }
     /// ```
+    ///
+    /// Words: [`blocks`](crate::words#blocks-of-slotmap_hop-hopcontent), [`content`](crate::words#content-of-slotmap_hop-hopcontent), [`GrowsHop`](crate::words#growshop), [`HasVacant`](crate::words#hasvacant), [`Inserts`](crate::words#inserts), [`Keeps`](crate::words#keeps), [`Refuses`](crate::words#refuses), [`shorter`](crate::words#shorter).
     #[inline(always)]
     pub fn insert(&mut self, value: V) -> Result<K, InsertError<V>>
     {
@@ -163,6 +165,8 @@ impl<K: Key, V: Sized> HopSlotMap<K, V> {
     ///
     /// ensures valid { GrowsHop self.old self.new }
     /// ```
+    ///
+    /// Words: [`blocks`](crate::words#blocks-of-slotmap_hop-hopcontent), [`content`](crate::words#content-of-slotmap_hop-hopcontent), [`GrowsHop`](crate::words#growshop), [`HasVacant`](crate::words#hasvacant), [`Inserts`](crate::words#inserts), [`Keeps`](crate::words#keeps), [`most`](crate::words#most), [`offer`](crate::words#offer), [`RefusesInsert`](crate::words#refusesinsert), [`shorter`](crate::words#shorter), [`used`](crate::words#used).
     #[inline]
     pub fn insert_with_key<F: FnOnce(K) -> V>(&mut self, f: F) -> Result<K, InsertWithError>
     where
@@ -214,6 +218,8 @@ impl<K: Key, V: Sized> HopSlotMap<K, V> {
     ///
     /// ensures valid { GrowsHop self.old self.new }
     /// ```
+    ///
+    /// Words: [`blocks`](crate::words#blocks-of-slotmap_hop-hopcontent), [`content`](crate::words#content-of-slotmap_hop-hopcontent), [`GrowsHop`](crate::words#growshop), [`Inserts`](crate::words#inserts), [`Keeps`](crate::words#keeps), [`most`](crate::words#most), [`next`](crate::words#next), [`offer`](crate::words#offer), [`RefusesWith`](crate::words#refuseswith), [`shorter`](crate::words#shorter), [`used`](crate::words#used).
     #[inline]
     pub fn try_insert_with_key<F: FnOnce(K) -> Result<V, E>, E>(
         &mut self,

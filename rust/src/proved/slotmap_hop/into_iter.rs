@@ -108,6 +108,8 @@ impl<K, V: Clone> IntoIter<K, V> {
     /// // Where clones equal their values, the second one yields the same pairs.
     /// ensures copies_if_clones_equal { IfOk result (λ copy. ClonesEqual V.is_clone → copy ≡ self.now) }
     /// ```
+    ///
+    /// Words: [`AreClones`](crate::words#areclones), [`ClonesEqual`](crate::words#clonesequal).
     #[inline]
     pub fn clone(&self) -> Result<Self, AllocError>
     {

@@ -87,6 +87,8 @@ impl<'a, K, V> Iter<'a, K, V> {
     /// ```text
     /// ensures { result ≡ length self.now.rest }
     /// ```
+    ///
+    /// Words: [`rest`](crate::words#rest).
     #[inline]
     pub fn len(&self) -> usize
     {
@@ -119,6 +121,8 @@ impl<'a, K, V> Iter<'a, K, V> {
     /// ```text
     /// ensures { result ≡ self.now.reads }
     /// ```
+    ///
+    /// Words: [`reads`](crate::words#reads-of-slotmap_hop-iter).
     #[inline]
     pub fn reads(&self) -> usize
     {
@@ -216,6 +220,8 @@ impl<'a, K, V> Keys<'a, K, V> {
     /// ```text
     /// ensures { result ≡ length self.now.rest }
     /// ```
+    ///
+    /// Words: [`rest`](crate::words#rest).
     #[inline]
     pub fn len(&self) -> usize
     {
@@ -246,6 +252,8 @@ impl<'a, K, V> Keys<'a, K, V> {
     /// ```text
     /// ensures { result ≡ self.now.reads }
     /// ```
+    ///
+    /// Words: [`reads`](crate::words#reads-of-slotmap_hop-iter).
     #[inline]
     pub fn reads(&self) -> usize
     {
@@ -329,6 +337,8 @@ impl<'a, K, V> Values<'a, K, V> {
     /// ```text
     /// ensures { result ≡ length self.now.rest }
     /// ```
+    ///
+    /// Words: [`rest`](crate::words#rest).
     #[inline]
     pub fn len(&self) -> usize
     {
@@ -359,6 +369,8 @@ impl<'a, K, V> Values<'a, K, V> {
     /// ```text
     /// ensures { result ≡ self.now.reads }
     /// ```
+    ///
+    /// Words: [`reads`](crate::words#reads-of-slotmap_hop-iter).
     #[inline]
     pub fn reads(&self) -> usize
     {
@@ -441,6 +453,8 @@ impl<K: Key, V> HopSlotMap<K, V> {
     /// ensures reads { result.reads ≡ 0 }
     /// ensures valid { IsHopContent self.now }
     /// ```
+    ///
+    /// Words: [`content`](crate::words#content-of-slotmap_hop-hopcontent), [`IsHopContent`](crate::words#ishopcontent), [`IsListing`](crate::words#islisting), [`ListsRetired`](crate::words#listsretired), [`live`](crate::words#live), [`reads`](crate::words#reads-of-slotmap_hop-iter), [`rest`](crate::words#rest), [`retired`](crate::words#retired-of-slotmap_hop-iter).
     #[inline]
     pub fn iter(&self) -> Iter<'_, K, V>
     {
@@ -482,6 +496,8 @@ impl<K: Key, V> HopSlotMap<K, V> {
     /// ensures reads { result.reads ≡ 0 }
     /// ensures valid { IsHopContent self.now }
     /// ```
+    ///
+    /// Words: [`content`](crate::words#content-of-slotmap_hop-hopcontent), [`IsHopContent`](crate::words#ishopcontent), [`IsKeyListing`](crate::words#iskeylisting), [`ListsRetired`](crate::words#listsretired), [`live`](crate::words#live), [`reads`](crate::words#reads-of-slotmap_hop-iter), [`rest`](crate::words#rest), [`retired`](crate::words#retired-of-slotmap_hop-iter).
     #[inline]
     pub fn keys(&self) -> Keys<'_, K, V>
     {
@@ -517,6 +533,8 @@ impl<K: Key, V> HopSlotMap<K, V> {
     /// ensures reads { result.reads ≡ 0 }
     /// ensures valid { IsHopContent self.now }
     /// ```
+    ///
+    /// Words: [`content`](crate::words#content-of-slotmap_hop-hopcontent), [`IsHopContent`](crate::words#ishopcontent), [`IsValueListing`](crate::words#isvaluelisting), [`ListsRetired`](crate::words#listsretired), [`live`](crate::words#live), [`reads`](crate::words#reads-of-slotmap_hop-iter), [`rest`](crate::words#rest), [`retired`](crate::words#retired-of-slotmap_hop-iter).
     #[inline]
     pub fn values(&self) -> Values<'_, K, V>
     {

@@ -84,6 +84,8 @@ impl<K: Key, V: Sized> HopSlotMap<K, V> {
     ///
     /// ensures valid { IsHopContent self.now }
     /// ```
+    ///
+    /// Words: [`ClonesEqual`](crate::words#clonesequal), [`content`](crate::words#content-of-slotmap_hop-hopcontent), [`IsCloneOf`](crate::words#iscloneof), [`IsHopContent`](crate::words#ishopcontent), [`Key`](crate::words#key), [`live`](crate::words#live), [`start_live`](crate::words#start_live), [`Writes`](crate::words#writes), [`WritesClones`](crate::words#writesclones).
     #[inline]
     pub fn to_slots(&self) -> Result<Vec<SlotRecord<V>>, OutOfMemory>
     where
@@ -151,6 +153,8 @@ impl<K: Key, V: Sized> HopSlotMap<K, V> {
     /// ensures accepted { IsOk result → Accepts list.items list_limit }
     /// ensures err { IfErr result (RefusesStart list.items list_limit) }
     /// ```
+    ///
+    /// Words: [`Accepts`](crate::words#accepts), [`Ascend`](crate::words#ascend), [`blocks`](crate::words#blocks-of-slotmap_hop-hopcontent), [`content`](crate::words#content-of-slotmap_hop-hopcontent), [`IsHopContent`](crate::words#ishopcontent), [`list_limit`](crate::words#list_limit), [`others`](crate::words#others), [`ReadsAs`](crate::words#readsas), [`RefusesStart`](crate::words#refusesstart).
     #[inline]
     pub fn from_slots(alloc: Global, list: Vec<SlotRecord<V>>) -> Result<Self, SlotsError>
     {

@@ -125,6 +125,8 @@ impl<V: Sized> HopSlotMap<DefaultKey, V> {
     /// ensures err { IfErr result (λ error. error ≡ ReserveError.Memory) }
     /// ensures valid { IfOk result IsHopContent }
     /// ```
+    ///
+    /// Words: [`blocks`](crate::words#blocks-of-slotmap_hop-hopcontent), [`content`](crate::words#content-of-slotmap_hop-hopcontent), [`IsHopContent`](crate::words#ishopcontent), [`IsNew`](crate::words#isnew), [`NoBlocks`](crate::words#noblocks).
     #[inline]
     pub fn new(alloc: Global) -> Result<Self, ReserveError>
     {
@@ -161,6 +163,8 @@ impl<V: Sized> HopSlotMap<DefaultKey, V> {
     /// ensures err { IfErr result (RefusesCapacity capacity) }
     /// ensures valid { IfOk result IsHopContent }
     /// ```
+    ///
+    /// Words: [`blocks`](crate::words#blocks-of-slotmap_hop-hopcontent), [`capacity`](crate::words#capacity-of-slotmap_core-content), [`content`](crate::words#content-of-slotmap_hop-hopcontent), [`IsHopContent`](crate::words#ishopcontent), [`IsNew`](crate::words#isnew), [`NoBlocks`](crate::words#noblocks), [`RefusesCapacity`](crate::words#refusescapacity), [`room`](crate::words#room-of-slotmap_core-content).
     #[inline]
     pub fn with_capacity(alloc: Global, capacity: usize) -> Result<Self, ReserveError>
     {
@@ -197,6 +201,8 @@ impl<K: Key, V: Sized> HopSlotMap<K, V> {
     /// ensures err { IfErr result (λ error. error ≡ ReserveError.Memory) }
     /// ensures valid { IfOk result IsHopContent }
     /// ```
+    ///
+    /// Words: [`blocks`](crate::words#blocks-of-slotmap_hop-hopcontent), [`content`](crate::words#content-of-slotmap_hop-hopcontent), [`IsHopContent`](crate::words#ishopcontent), [`IsNew`](crate::words#isnew), [`NoBlocks`](crate::words#noblocks).
     #[inline]
     pub fn with_key(alloc: Global) -> Result<Self, ReserveError>
     {
@@ -232,6 +238,8 @@ impl<K: Key, V: Sized> HopSlotMap<K, V> {
     /// ensures err { IfErr result (RefusesCapacity capacity) }
     /// ensures valid { IfOk result IsHopContent }
     /// ```
+    ///
+    /// Words: [`blocks`](crate::words#blocks-of-slotmap_hop-hopcontent), [`capacity`](crate::words#capacity-of-slotmap_core-content), [`content`](crate::words#content-of-slotmap_hop-hopcontent), [`IsHopContent`](crate::words#ishopcontent), [`IsNew`](crate::words#isnew), [`NoBlocks`](crate::words#noblocks), [`RefusesCapacity`](crate::words#refusescapacity), [`room`](crate::words#room-of-slotmap_core-content).
     #[inline]
     pub fn with_capacity_and_key(alloc: Global, capacity: usize) -> Result<Self, ReserveError>
     {
@@ -273,6 +281,8 @@ impl<K: Key, V: Sized> HopSlotMap<K, V> {
     /// ensures value { result ≡ map.len self.now.content.live }
     /// ensures valid { IsHopContent self.now }
     /// ```
+    ///
+    /// Words: [`content`](crate::words#content-of-slotmap_hop-hopcontent), [`IsHopContent`](crate::words#ishopcontent), [`live`](crate::words#live).
     #[inline]
     pub fn len(&self) -> usize
     {
@@ -305,6 +315,8 @@ impl<K: Key, V: Sized> HopSlotMap<K, V> {
     /// ensures value { IsTrue result ↔ (map.len self.now.content.live ≡ 0) }
     /// ensures valid { IsHopContent self.now }
     /// ```
+    ///
+    /// Words: [`content`](crate::words#content-of-slotmap_hop-hopcontent), [`IsHopContent`](crate::words#ishopcontent), [`live`](crate::words#live).
     #[inline]
     pub fn is_empty(&self) -> bool
     {
@@ -337,6 +349,8 @@ impl<K: Key, V: Sized> HopSlotMap<K, V> {
     /// ensures value { result ≡ self.now.content.capacity }
     /// ensures valid { IsHopContent self.now }
     /// ```
+    ///
+    /// Words: [`capacity`](crate::words#capacity-of-slotmap_core-content), [`content`](crate::words#content-of-slotmap_hop-hopcontent), [`IsHopContent`](crate::words#ishopcontent).
     #[inline]
     pub fn capacity(&self) -> usize
     {
@@ -388,6 +402,8 @@ impl<K: Key, V: Sized> HopSlotMap<K, V> {
     /// ensures err { IfErr result (RefusesCapacity (used self.old.content + additional)) }
     /// ensures reuses { additional ≤ map.len self.old.content.next → IsOk result }
     /// ```
+    ///
+    /// Words: [`content`](crate::words#content-of-slotmap_hop-hopcontent), [`MakesHopRoom`](crate::words#makeshoproom), [`next`](crate::words#next), [`RefusesCapacity`](crate::words#refusescapacity), [`used`](crate::words#used).
     #[inline(never)]
     pub fn reserve(&mut self, additional: usize) -> Result<(), ReserveError>
     {
@@ -428,6 +444,8 @@ impl<K: Key, V: Sized> HopSlotMap<K, V> {
     /// ensures err { IfErr result (RefusesCapacity (used self.old.content + additional)) }
     /// ensures reuses { additional ≤ map.len self.old.content.next → IsOk result }
     /// ```
+    ///
+    /// Words: [`content`](crate::words#content-of-slotmap_hop-hopcontent), [`MakesHopRoom`](crate::words#makeshoproom), [`next`](crate::words#next), [`RefusesCapacity`](crate::words#refusescapacity), [`used`](crate::words#used).
     #[inline]
     pub fn try_reserve(&mut self, additional: usize) -> Result<(), ReserveError>
     {

@@ -40,6 +40,8 @@ impl<K: Key, V: Sized> HopSlotMap<K, V> {
     /// ensures unchanged { IfNone result (self.new ≡ self.old) }
     /// ensures valid { StaysHop self.old self.new }
     /// ```
+    ///
+    /// Words: [`blocks`](crate::words#blocks-of-slotmap_hop-hopcontent), [`blocks_without`](crate::words#blocks_without), [`content`](crate::words#content-of-slotmap_hop-hopcontent), [`live`](crate::words#live), [`Removes`](crate::words#removes), [`StaysHop`](crate::words#stayshop).
     #[inline(always)]
     pub fn remove(&mut self, key: K) -> Option<V>
     {

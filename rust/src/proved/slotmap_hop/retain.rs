@@ -39,6 +39,8 @@ impl<K: Key, V: Sized> HopSlotMap<K, V> {
     /// ensures leaves { Leaves self.old.content self.new.content }
     /// ensures valid { StaysHop self.old self.new }
     /// ```
+    ///
+    /// Words: [`CallableOnEach`](crate::words#callableoneach), [`content`](crate::words#content-of-slotmap_hop-hopcontent), [`Leaves`](crate::words#leaves), [`live`](crate::words#live), [`RetainsBy`](crate::words#retainsby), [`RetainsByIndex`](crate::words#retainsbyindex), [`StaysHop`](crate::words#stayshop).
     #[inline]
     pub fn retain<F: FnMut(K, &mut V) -> bool>(&mut self, mut f: F)
     where

@@ -34,6 +34,8 @@ use crate::rt::std::alloc::Global;
 /// ensures value { IfOk result (λ value. view value ≡ key_json (K.data_of key)) }
 /// ensures valid { IsKey (K.data_of key) }
 /// ```
+///
+/// Words: [`IsKey`](crate::words#iskey), [`key_json`](crate::words#key_json).
 pub fn key_to_value<K: Key>(alloc: Global, key: K) -> Result<Value, OutOfMemory>
 {
     let data = key.data();
@@ -66,6 +68,8 @@ pub fn key_to_value<K: Key>(alloc: Global, key: K) -> Result<Value, OutOfMemory>
 /// ensures ok { option_map K.data_of (result_ok result) ≡ read_key (view value.now) }
 /// ensures err { IfErr result (λ error. error ≡ Shape) }
 /// ```
+///
+/// Words: [`read_key`](crate::words#read_key).
 pub fn key_from_value<K: Key>(value: &Value) -> Result<K, JsonError>
 {
     let idx = u32_member(value, "idx").ok_or(JsonError::Shape)?;
@@ -80,6 +84,8 @@ pub fn key_from_value<K: Key>(value: &Value) -> Result<K, JsonError>
 /// ```text
 /// ensures { result ≡ u32_at name.now (view value.now) }
 /// ```
+///
+/// Words: [`u32_at`](crate::words#u32_at).
 fn u32_member(value: &Value, name: &str) -> Option<u32>
 {
     let number = value.get(name)?.as_u64()?;
@@ -118,6 +124,8 @@ fn u32_member(value: &Value, name: &str) -> Option<u32>
 /// ensures ok { IfOk result (λ value. IsSlotsJson (GivesJson F.Fn f) list.now (view value)) }
 /// ensures err { OnErr result (list.now ≢ []) }
 /// ```
+///
+/// Words: [`GivesJson`](crate::words#givesjson), [`IsSlotsJson`](crate::words#isslotsjson).
 pub fn slots_to_value<V, F: Fn(&V) -> Result<Value, OutOfMemory>>(
     alloc: Global,
     list: &[SlotRecord<V>],
@@ -184,6 +192,8 @@ fn slot_value(alloc: Global, value: Value, version: u32) -> Result<Value, OutOfM
 /// ensures ok { IfOk result (λ slots. IsReadAs (ReadsJson G.Fn g) (view value.now) slots.items) }
 /// ensures err { IfErr result (IsRefused (ReadsJson G.Fn g) (view value.now)) }
 /// ```
+///
+/// Words: [`IsReadAs`](crate::words#isreadas), [`IsRefused`](crate::words#isrefused), [`ReadsJson`](crate::words#readsjson).
 pub fn slots_from_value<V: Sized, G: Fn(&Value) -> Result<V, JsonError>>(
     alloc: Global,
     value: &Value,
@@ -232,6 +242,8 @@ where
 /// requires { G.IsAlwaysCallable g.now }
 /// ensures { ReadsSlot (ReadsJson G.Fn g.now) (view element.now) result }
 /// ```
+///
+/// Words: [`ReadsJson`](crate::words#readsjson), [`ReadsSlot`](crate::words#readsslot).
 pub fn slot_from_value<V: Sized, G: Fn(&Value) -> Result<V, JsonError>>(
     element: &Value,
     g: &G,
@@ -257,6 +269,8 @@ pub fn slot_from_value<V: Sized, G: Fn(&Value) -> Result<V, JsonError>>(
 /// ```text
 /// ensures { option_map (λ v. view v.now) result ≡ value_member (view element.now) }
 /// ```
+///
+/// Words: [`value_member`](crate::words#value_member).
 fn value_member(element: &Value) -> Option<&Value>
 {
     element.get("value").filter(|value| !value.is_null())

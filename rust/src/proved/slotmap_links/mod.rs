@@ -309,6 +309,8 @@ impl Links {
     /// requires { owner < length self.now.lists }
     /// ensures { result ≡ first_or (list_of self.now owner) None }
     /// ```
+    ///
+    /// Words: [`first_or`](crate::words#first_or-of-slotmap_links-lists).
     #[inline]
     pub fn first(&self, owner: u32) -> Option<u32>
     {

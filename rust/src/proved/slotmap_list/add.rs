@@ -75,6 +75,8 @@ impl<K: Key, T: Sized> StableList<K, T> {
     /// ensures keeps { OnErr result (Keeps self.old.cursors self.new.cursors) }
     /// ensures gone { KeepsSpent self.old.cursors self.new.cursors }
     /// ```
+    ///
+    /// Words: [`capacity`](crate::words#capacity-of-slotmap_core-content), [`cursors`](crate::words#cursors-of-slotmap_list-sequence), [`elements`](crate::words#elements), [`HasVacant`](crate::words#hasvacant), [`Inserts`](crate::words#inserts), [`IsSpent`](crate::words#isspent), [`Keeps`](crate::words#keeps), [`KeepsSpent`](crate::words#keepsspent), [`last_or`](crate::words#last_or-of-slotmap_list-sequence), [`memory`](crate::words#memory-of-slotmap_list-sequence), [`RefusesPush`](crate::words#refusespush), [`room`](crate::words#room-of-slotmap_core-content), [`used`](crate::words#used), [`value_of`](crate::words#value_of-of-slotmap_list-sequence).
     pub fn push_back(&mut self, value: T) -> Result<K, PushError<T>>
     {
         self.put(Place::Back, value)
@@ -117,6 +119,8 @@ impl<K: Key, T: Sized> StableList<K, T> {
     /// ensures keeps { OnErr result (Keeps self.old.cursors self.new.cursors) }
     /// ensures gone { KeepsSpent self.old.cursors self.new.cursors }
     /// ```
+    ///
+    /// Words: [`capacity`](crate::words#capacity-of-slotmap_core-content), [`cursors`](crate::words#cursors-of-slotmap_list-sequence), [`elements`](crate::words#elements), [`first_or`](crate::words#first_or-of-slotmap_list-sequence), [`HasVacant`](crate::words#hasvacant), [`Inserts`](crate::words#inserts), [`IsSpent`](crate::words#isspent), [`Keeps`](crate::words#keeps), [`KeepsSpent`](crate::words#keepsspent), [`memory`](crate::words#memory-of-slotmap_list-sequence), [`RefusesPush`](crate::words#refusespush), [`room`](crate::words#room-of-slotmap_core-content), [`used`](crate::words#used), [`value_of`](crate::words#value_of-of-slotmap_list-sequence).
     pub fn push_front(&mut self, value: T) -> Result<K, PushError<T>>
     {
         self.put(Place::Front, value)
@@ -176,6 +180,8 @@ impl<K: Key, T: Sized> StableList<K, T> {
     /// ensures keeps { OnErr result (Keeps self.old.cursors self.new.cursors) }
     /// ensures gone { KeepsSpent self.old.cursors self.new.cursors }
     /// ```
+    ///
+    /// Words: [`capacity`](crate::words#capacity-of-slotmap_core-content), [`cursors`](crate::words#cursors-of-slotmap_list-sequence), [`elements`](crate::words#elements), [`HasVacant`](crate::words#hasvacant), [`Inserts`](crate::words#inserts), [`IsSpent`](crate::words#isspent), [`Keeps`](crate::words#keeps), [`KeepsSpent`](crate::words#keepsspent), [`key_after`](crate::words#key_after-of-slotmap_list-sequence), [`memory`](crate::words#memory-of-slotmap_list-sequence), [`put_after`](crate::words#put_after), [`RefusesPlace`](crate::words#refusesplace), [`room`](crate::words#room-of-slotmap_core-content), [`used`](crate::words#used), [`value_of`](crate::words#value_of-of-slotmap_list-sequence).
     pub fn insert_after(&mut self, cursor: K, value: T) -> Result<K, PlaceError<T>>
     {
         self.insert(Side::After, cursor, value)
@@ -222,6 +228,8 @@ impl<K: Key, T: Sized> StableList<K, T> {
     /// ensures keeps { OnErr result (Keeps self.old.cursors self.new.cursors) }
     /// ensures gone { KeepsSpent self.old.cursors self.new.cursors }
     /// ```
+    ///
+    /// Words: [`capacity`](crate::words#capacity-of-slotmap_core-content), [`cursors`](crate::words#cursors-of-slotmap_list-sequence), [`elements`](crate::words#elements), [`HasVacant`](crate::words#hasvacant), [`Inserts`](crate::words#inserts), [`IsSpent`](crate::words#isspent), [`Keeps`](crate::words#keeps), [`KeepsSpent`](crate::words#keepsspent), [`key_before`](crate::words#key_before), [`memory`](crate::words#memory-of-slotmap_list-sequence), [`put_before`](crate::words#put_before), [`RefusesPlace`](crate::words#refusesplace), [`room`](crate::words#room-of-slotmap_core-content), [`used`](crate::words#used), [`value_of`](crate::words#value_of-of-slotmap_list-sequence).
     pub fn insert_before(&mut self, cursor: K, value: T) -> Result<K, PlaceError<T>>
     {
         self.insert(Side::Before, cursor, value)

@@ -32,6 +32,8 @@ impl<K: Key, T: Sized> StableList<K, T> {
     /// ensures next { option_map (λ e. K.data_of e.0) result ≡ key_after (K.data_of cursor) self.now.elements }
     /// ensures value { IfSome result (λ e. value_of (K.data_of e.0) self.now.elements ≡ Some e.1.now) }
     /// ```
+    ///
+    /// Words: [`elements`](crate::words#elements), [`key_after`](crate::words#key_after-of-slotmap_list-sequence), [`value_of`](crate::words#value_of-of-slotmap_list-sequence).
     pub fn next_element(&self, cursor: K) -> Option<(K, &T)>
     {
         let next = self.next(cursor)?;
@@ -63,6 +65,8 @@ impl<K: Key, T: Sized> StableList<K, T> {
     /// ensures prev { option_map (λ e. K.data_of e.0) result ≡ key_before None (K.data_of cursor) self.now.elements }
     /// ensures value { IfSome result (λ e. value_of (K.data_of e.0) self.now.elements ≡ Some e.1.now) }
     /// ```
+    ///
+    /// Words: [`elements`](crate::words#elements), [`key_before`](crate::words#key_before), [`value_of`](crate::words#value_of-of-slotmap_list-sequence).
     pub fn prev_element(&self, cursor: K) -> Option<(K, &T)>
     {
         let prev = self.prev(cursor)?;

@@ -37,6 +37,8 @@ impl<K: Key, T: Clone> StableList<K, T> {
     /// ensures capacity { IfOk result (λ copy. bound copy.cursors ≡ bound self.now.cursors) }
     /// ensures room { IfOk result (λ copy. copy.cursors.room ≡ self.now.cursors.room) }
     /// ```
+    ///
+    /// Words: [`AreClones`](crate::words#areclones), [`bound`](crate::words#bound), [`ClonesEqual`](crate::words#clonesequal), [`cursors`](crate::words#cursors-of-slotmap_list-sequence), [`elements`](crate::words#elements), [`IsCopy`](crate::words#iscopy), [`room`](crate::words#room-of-slotmap_core-content).
     pub fn clone(&self) -> Result<Self, AllocError>
     {
         Ok(StableList {

@@ -76,6 +76,8 @@ impl<K: Key, T: Sized> StableList<K, T> {
     /// ensures stays { KeepsLent K.data_of result }
     /// ensures in_order { YieldsInOrder K.data_of result }
     /// ```
+    ///
+    /// Words: [`drain_loan`](crate::words#drain_loan-of-slotmap_list-drain), [`KeepsLent`](crate::words#keepslent-of-slotmap_list-drain), [`YieldsInOrder`](crate::words#yieldsinorder-of-slotmap_list-drain).
     pub fn drain(&mut self) -> Drain<'_, K, T>
     {
         Drain { list: self }

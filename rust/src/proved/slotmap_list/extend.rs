@@ -52,6 +52,8 @@ impl<K: Key, T: Sized> StableList<K, T> {
     /// // What never comes again.
     /// ensures gone { KeepsSpent self.old.cursors self.new.cursors }
     /// ```
+    ///
+    /// Words: [`AddsAll`](crate::words#addsall), [`capacity`](crate::words#capacity-of-slotmap_core-content), [`cursors`](crate::words#cursors-of-slotmap_list-sequence), [`elements`](crate::words#elements), [`FullAtLimit`](crate::words#fullatlimit), [`KeepsSpent`](crate::words#keepsspent), [`memory`](crate::words#memory-of-slotmap_list-sequence), [`next`](crate::words#next), [`room`](crate::words#room-of-slotmap_core-content), [`used`](crate::words#used).
     pub fn extend<I: IntoIterator<Item = T>>(&mut self, iter: I) -> Result<(), PushError<T>>
     {
         for value in iter {
@@ -93,6 +95,8 @@ impl<K: Key, T: Sized> StableList<K, T> {
     ///     × I.into_iter_gives iter it × YieldsThen I.IntoIter.next_gives it values (Some (refused back)) rest × FullAfter (length values) back)) }
     /// ensures none { IfErr result (λ error. error ≡ None → (it : I.IntoIter) × I.into_iter_gives iter it × Drains I.IntoIter.next_gives it []) }
     /// ```
+    ///
+    /// Words: [`cursors`](crate::words#cursors-of-slotmap_list-sequence), [`elements`](crate::words#elements), [`FullAfter`](crate::words#fullafter), [`refused`](crate::words#refused), [`used`](crate::words#used).
     pub fn from_iter<I: IntoIterator<Item = T>>(
         alloc: Global,
         iter: I,
@@ -168,6 +172,8 @@ impl<K: Key, T: Sized> StableList<K, T> {
     /// ensures gone { KeepsSpent self.old.cursors self.new.cursors }
     /// ensures gone_other { KeepsSpent other.old.cursors other.new.cursors }
     /// ```
+    ///
+    /// Words: [`Adds`](crate::words#adds), [`capacity`](crate::words#capacity-of-slotmap_core-content), [`cursors`](crate::words#cursors-of-slotmap_list-sequence), [`elements`](crate::words#elements), [`IsSpent`](crate::words#isspent), [`Keeps`](crate::words#keeps), [`KeepsSpent`](crate::words#keepsspent), [`Key`](crate::words#key), [`Leaves`](crate::words#leaves), [`live`](crate::words#live), [`memory`](crate::words#memory-of-slotmap_list-sequence), [`next`](crate::words#next), [`RefusesCapacity`](crate::words#refusescapacity), [`room`](crate::words#room-of-slotmap_core-content), [`used`](crate::words#used), [`value_of`](crate::words#value_of-of-slotmap_list-sequence).
     pub fn append<L: Key>(&mut self, other: &mut StableList<L, T>) -> Result<(), ReserveError>
     {
         self.reserve(other.len())?;

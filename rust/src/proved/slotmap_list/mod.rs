@@ -148,6 +148,8 @@ impl<T: Sized> StableList<Cursor, T> {
     /// ensures cursors { IfOk result (λ list. IsNew list.cursors) }
     /// ensures err { IfErr result (λ error. error ≡ ReserveError.Memory) }
     /// ```
+    ///
+    /// Words: [`cursors`](crate::words#cursors-of-slotmap_list-sequence), [`elements`](crate::words#elements), [`IsNew`](crate::words#isnew).
     pub fn new(alloc: Global) -> Result<Self, ReserveError>
     {
         StableList::with_key(alloc)
@@ -179,6 +181,8 @@ impl<T: Sized> StableList<Cursor, T> {
     /// ensures room { IfOk result (λ list. capacity ≤ list.cursors.room) }
     /// ensures err { IfErr result (RefusesCapacity capacity) }
     /// ```
+    ///
+    /// Words: [`cursors`](crate::words#cursors-of-slotmap_list-sequence), [`elements`](crate::words#elements), [`IsNew`](crate::words#isnew), [`RefusesCapacity`](crate::words#refusescapacity), [`room`](crate::words#room-of-slotmap_core-content).
     pub fn with_capacity(alloc: Global, capacity: usize) -> Result<Self, ReserveError>
     {
         StableList::with_capacity_and_key(alloc, capacity)
@@ -208,6 +212,8 @@ impl<K: Key, T: Sized> StableList<K, T> {
     /// ensures cursors { IfOk result (λ list. IsNew list.cursors) }
     /// ensures err { IfErr result (λ error. error ≡ ReserveError.Memory) }
     /// ```
+    ///
+    /// Words: [`cursors`](crate::words#cursors-of-slotmap_list-sequence), [`elements`](crate::words#elements), [`IsNew`](crate::words#isnew).
     pub fn with_key(alloc: Global) -> Result<Self, ReserveError>
     {
         StableList::with_capacity_and_key(alloc, 0)
@@ -238,6 +244,8 @@ impl<K: Key, T: Sized> StableList<K, T> {
     /// ensures room { IfOk result (λ list. capacity ≤ list.cursors.room) }
     /// ensures err { IfErr result (RefusesCapacity capacity) }
     /// ```
+    ///
+    /// Words: [`cursors`](crate::words#cursors-of-slotmap_list-sequence), [`elements`](crate::words#elements), [`IsNew`](crate::words#isnew), [`RefusesCapacity`](crate::words#refusescapacity), [`room`](crate::words#room-of-slotmap_core-content).
     pub fn with_capacity_and_key(alloc: Global, capacity: usize) -> Result<Self, ReserveError>
     {
         let values = BoundedMap::with_capacity(alloc, capacity)?;
@@ -269,6 +277,8 @@ impl<K: Key, T: Sized> StableList<K, T> {
     /// ensures value { result ≡ is_some (value_of (K.data_of cursor) self.now.elements) }
     /// ensures live { result ≡ map.contains_key self.now.cursors.live (K.data_of cursor) }
     /// ```
+    ///
+    /// Words: [`cursors`](crate::words#cursors-of-slotmap_list-sequence), [`elements`](crate::words#elements), [`live`](crate::words#live), [`value_of`](crate::words#value_of-of-slotmap_list-sequence).
     pub fn contains(&self, cursor: K) -> bool
     {
         self.values.contains_key(cursor)
@@ -298,6 +308,8 @@ impl<K: Key, T: Sized> StableList<K, T> {
     /// ensures live { result ≡ map.len self.now.cursors.live }
     /// ensures same_keys { (k : KeyOf) → map.contains_key self.now.cursors.live k ≡ is_some (value_of k self.now.elements) }
     /// ```
+    ///
+    /// Words: [`cursors`](crate::words#cursors-of-slotmap_list-sequence), [`elements`](crate::words#elements), [`IsOnce`](crate::words#isonce-of-slotmap_list-sequence), [`Key`](crate::words#key), [`live`](crate::words#live), [`value_of`](crate::words#value_of-of-slotmap_list-sequence).
     pub fn len(&self) -> usize
     {
         self.links.len(0)
@@ -323,6 +335,8 @@ impl<K: Key, T: Sized> StableList<K, T> {
     /// ```text
     /// ensures { IsTrue result ↔ (length self.now.elements ≡ 0) }
     /// ```
+    ///
+    /// Words: [`elements`](crate::words#elements).
     pub fn is_empty(&self) -> bool
     {
         self.len() == 0
@@ -350,6 +364,8 @@ impl<K: Key, T: Sized> StableList<K, T> {
     /// ```text
     /// ensures { option_map K.data_of result ≡ first_or self.now.elements None }
     /// ```
+    ///
+    /// Words: [`elements`](crate::words#elements), [`first_or`](crate::words#first_or-of-slotmap_list-sequence).
     pub fn first(&self) -> Option<K>
     {
         key_at(&self.values, self.links.first(0))
@@ -377,6 +393,8 @@ impl<K: Key, T: Sized> StableList<K, T> {
     /// ```text
     /// ensures { option_map K.data_of result ≡ last_or self.now.elements None }
     /// ```
+    ///
+    /// Words: [`elements`](crate::words#elements), [`last_or`](crate::words#last_or-of-slotmap_list-sequence).
     pub fn last(&self) -> Option<K>
     {
         key_at(&self.values, self.links.last(0))
@@ -404,6 +422,8 @@ impl<K: Key, T: Sized> StableList<K, T> {
     /// ensures value { option_copied result ≡ value_of (K.data_of cursor) self.now.elements }
     /// ensures gone { IsSpent self.now.cursors (K.data_of cursor) → result ≡ None }
     /// ```
+    ///
+    /// Words: [`cursors`](crate::words#cursors-of-slotmap_list-sequence), [`elements`](crate::words#elements), [`IsSpent`](crate::words#isspent), [`value_of`](crate::words#value_of-of-slotmap_list-sequence).
     pub fn get(&self, cursor: K) -> Option<&T>
     {
         self.values.get(cursor)
@@ -431,6 +451,8 @@ impl<K: Key, T: Sized> StableList<K, T> {
     /// ```text
     /// ensures { option_map K.data_of result ≡ key_after (K.data_of cursor) self.now.elements }
     /// ```
+    ///
+    /// Words: [`elements`](crate::words#elements), [`key_after`](crate::words#key_after-of-slotmap_list-sequence).
     pub fn next(&self, cursor: K) -> Option<K>
     {
         self.after(cursor)
@@ -458,6 +480,8 @@ impl<K: Key, T: Sized> StableList<K, T> {
     /// ```text
     /// ensures { option_map K.data_of result ≡ key_before None (K.data_of cursor) self.now.elements }
     /// ```
+    ///
+    /// Words: [`elements`](crate::words#elements), [`key_before`](crate::words#key_before).
     pub fn prev(&self, cursor: K) -> Option<K>
     {
         if !self.values.contains_key(cursor) {
@@ -502,6 +526,8 @@ impl<K: Key, T: Sized> StableList<K, T> {
     /// ensures elements { result ≡ self.now.elements }
     /// ensures once { IsOnce result }
     /// ```
+    ///
+    /// Words: [`elements`](crate::words#elements), [`IsOnce`](crate::words#isonce-of-slotmap_list-sequence).
     pub fn iter(&self) -> Iter<'_, K, T>
     {
         Iter {
@@ -531,6 +557,8 @@ impl<K: Key, T: Sized> StableList<K, T> {
     /// ```text
     /// ensures { IfOk result (λ values. values.items ≡ list_map (λ e. e.1) self.now.elements) }
     /// ```
+    ///
+    /// Words: [`elements`](crate::words#elements).
     pub fn to_vec(&self, alloc: Global) -> Result<Vec<T>, AllocError>
     where
         T: Copy,

@@ -42,6 +42,8 @@ impl<K: Key, T: Sized> StableList<K, T> {
     /// ensures* writes_back { sem 𝓛 (lends_element K.row T.row self.entry (K.data_of cursor) result) }
     /// ensures value { option_copied_mut result ≡ value_of (K.data_of cursor) self.old.elements }
     /// ```
+    ///
+    /// Words: [`elements`](crate::words#elements), [`lends_element`](crate::words#lends_element), [`value_of`](crate::words#value_of-of-slotmap_list-sequence).
     pub fn get_mut(&mut self, cursor: K) -> Option<&mut T>
     {
         match self.values.get_mut(cursor) {
@@ -76,6 +78,8 @@ impl<K: Key, T: Sized> StableList<K, T> {
     /// ensures* writes_back { sem 𝓛 (lends_first K.row T.row self.entry result) }
     /// ensures value { option_copied_mut result ≡ slice_get (list_map (λ e. e.1) self.old.elements) 0 }
     /// ```
+    ///
+    /// Words: [`elements`](crate::words#elements), [`lends_first`](crate::words#lends_first).
     pub fn front_mut(&mut self) -> Option<&mut T>
     {
         match self.first() {
@@ -110,6 +114,8 @@ impl<K: Key, T: Sized> StableList<K, T> {
     /// ensures* writes_back { sem 𝓛 (lends_last K.row T.row self.entry result) }
     /// ensures value { option_copied_mut result ≡ slice_get (list_map (λ e. e.1) self.old.elements) (length self.old.elements - 1) }
     /// ```
+    ///
+    /// Words: [`elements`](crate::words#elements), [`lends_last`](crate::words#lends_last).
     pub fn back_mut(&mut self) -> Option<&mut T>
     {
         // By what `len` ensures, no cursor stands twice.
@@ -147,6 +153,8 @@ impl<K: Key, T: Sized> StableList<K, T> {
     /// ensures first { IsTrue result → first_or self.new.elements None ≡ Some (K.data_of cursor) }
     /// ensures values { (q : KeyOf) → value_of q self.new.elements ≡ value_of q self.old.elements }
     /// ```
+    ///
+    /// Words: [`elements`](crate::words#elements), [`first_or`](crate::words#first_or-of-slotmap_list-sequence), [`Key`](crate::words#key), [`moved_to_front`](crate::words#moved_to_front), [`value_of`](crate::words#value_of-of-slotmap_list-sequence).
     pub fn move_to_front(&mut self, cursor: K) -> bool
     {
         self.move_to(cursor, Place::Front)
@@ -179,6 +187,8 @@ impl<K: Key, T: Sized> StableList<K, T> {
     /// ensures last { IsTrue result → last_or self.new.elements None ≡ Some (K.data_of cursor) }
     /// ensures values { (q : KeyOf) → value_of q self.new.elements ≡ value_of q self.old.elements }
     /// ```
+    ///
+    /// Words: [`elements`](crate::words#elements), [`Key`](crate::words#key), [`last_or`](crate::words#last_or-of-slotmap_list-sequence), [`moved_to_back`](crate::words#moved_to_back), [`value_of`](crate::words#value_of-of-slotmap_list-sequence).
     pub fn move_to_back(&mut self, cursor: K) -> bool
     {
         self.move_to(cursor, Place::Back)
@@ -213,6 +223,8 @@ impl<K: Key, T: Sized> StableList<K, T> {
     /// ensures next { IsTrue result → key_after (K.data_of other) self.new.elements ≡ Some (K.data_of cursor) }
     /// ensures values { (q : KeyOf) → value_of q self.new.elements ≡ value_of q self.old.elements }
     /// ```
+    ///
+    /// Words: [`are_two`](crate::words#are_two), [`elements`](crate::words#elements), [`Key`](crate::words#key), [`key_after`](crate::words#key_after-of-slotmap_list-sequence), [`moved_after`](crate::words#moved_after), [`value_of`](crate::words#value_of-of-slotmap_list-sequence).
     pub fn move_after(&mut self, cursor: K, other: K) -> bool
     {
         self.move_to(cursor, Place::Beside(Side::After, other.data()))
@@ -247,6 +259,8 @@ impl<K: Key, T: Sized> StableList<K, T> {
     /// ensures prev { IsTrue result → key_before None (K.data_of other) self.new.elements ≡ Some (K.data_of cursor) }
     /// ensures values { (q : KeyOf) → value_of q self.new.elements ≡ value_of q self.old.elements }
     /// ```
+    ///
+    /// Words: [`are_two`](crate::words#are_two), [`elements`](crate::words#elements), [`Key`](crate::words#key), [`key_before`](crate::words#key_before), [`moved_before`](crate::words#moved_before), [`value_of`](crate::words#value_of-of-slotmap_list-sequence).
     pub fn move_before(&mut self, cursor: K, other: K) -> bool
     {
         self.move_to(cursor, Place::Beside(Side::Before, other.data()))
@@ -286,6 +300,8 @@ impl<K: Key, T: Sized> StableList<K, T> {
     /// ensures links { self.new.links ≡ self.old.links }
     /// ensures unchanged { result ≡ false → self.new ≡ self.old }
     /// ```
+    ///
+    /// Words: [`are_two`](crate::words#are_two), [`cursors`](crate::words#cursors-of-slotmap_list-sequence), [`elements`](crate::words#elements), [`Key`](crate::words#key), [`links`](crate::words#links-of-slotmap_list-sequence), [`Swaps`](crate::words#swaps), [`value_of`](crate::words#value_of-of-slotmap_list-sequence).
     pub fn swap(&mut self, cursor: K, other: K) -> bool
     {
         if !self.has_two(cursor, other) {

@@ -69,6 +69,8 @@ impl<K: Key, T: Sized> StableList<K, T> {
     /// ensures elements { result ≡ from_key (K.data_of cursor) self.now.elements }
     /// ensures once { IsOnce self.now.elements }
     /// ```
+    ///
+    /// Words: [`elements`](crate::words#elements), [`from_key`](crate::words#from_key), [`IsOnce`](crate::words#isonce-of-slotmap_list-sequence).
     pub fn iter_from(&self, cursor: K) -> IterFrom<'_, K, T>
     {
         let most = self.len();

@@ -54,6 +54,8 @@ impl<K: Key, T: Sized> StableList<K, T> {
     /// ensures leaves { Leaves self.old.cursors self.new.cursors }
     /// ensures capacity { memory self.new ≡ memory self.old }
     /// ```
+    ///
+    /// Words: [`CallableInOrder`](crate::words#callableinorder), [`cursors`](crate::words#cursors-of-slotmap_list-sequence), [`elements`](crate::words#elements), [`IsSpent`](crate::words#isspent), [`KeepsSpent`](crate::words#keepsspent), [`Key`](crate::words#key), [`Leaves`](crate::words#leaves), [`memory`](crate::words#memory-of-slotmap_list-sequence), [`RetainsEach`](crate::words#retainseach), [`value_of`](crate::words#value_of-of-slotmap_list-sequence).
     pub fn retain<F: FnMut(K, &mut T) -> bool>(&mut self, mut f: F)
     where
         F: Sized,

@@ -62,6 +62,8 @@ impl<K: Key, T: Sized> StableList<K, T> {
     /// ensures keeps { Keeps self.old.cursors self.new.cursors }
     /// ensures gone { KeepsSpent self.old.cursors self.new.cursors }
     /// ```
+    ///
+    /// Words: [`capacity`](crate::words#capacity-of-slotmap_core-content), [`cursors`](crate::words#cursors-of-slotmap_list-sequence), [`elements`](crate::words#elements), [`Keeps`](crate::words#keeps), [`KeepsSpent`](crate::words#keepsspent), [`MakesRoom`](crate::words#makesroom), [`next`](crate::words#next), [`RefusesCapacity`](crate::words#refusescapacity), [`room`](crate::words#room-of-slotmap_core-content), [`used`](crate::words#used).
     #[inline(never)]
     pub fn reserve(&mut self, additional: usize) -> Result<(), ReserveError>
     {
@@ -96,6 +98,8 @@ impl<K: Key, T: Sized> StableList<K, T> {
     /// ensures exact { result ≡ used self.now.cursors + self.now.cursors.room }
     /// ensures valid { IsContent true self.now.cursors }
     /// ```
+    ///
+    /// Words: [`bound`](crate::words#bound), [`cursors`](crate::words#cursors-of-slotmap_list-sequence), [`IsContent`](crate::words#iscontent), [`room`](crate::words#room-of-slotmap_core-content), [`used`](crate::words#used).
     pub fn capacity(&self) -> usize
     {
         self.values.capacity()

@@ -37,6 +37,8 @@ impl<K: Key, T: Sized> StableList<K, T> {
     /// ensures capacity { memory self.new ≡ memory self.old }
     /// ensures stale { IfNone result (self.new ≡ self.old) }
     /// ```
+    ///
+    /// Words: [`cursors`](crate::words#cursors-of-slotmap_list-sequence), [`elements`](crate::words#elements), [`IsSpent`](crate::words#isspent), [`KeepsSpent`](crate::words#keepsspent), [`Leaves`](crate::words#leaves), [`memory`](crate::words#memory-of-slotmap_list-sequence), [`Removes`](crate::words#removes), [`value_of`](crate::words#value_of-of-slotmap_list-sequence), [`without`](crate::words#without-of-slotmap_list-sequence).
     pub fn remove(&mut self, cursor: K) -> Option<T>
     {
         let value = self.values.remove(cursor)?;
@@ -73,6 +75,8 @@ impl<K: Key, T: Sized> StableList<K, T> {
     /// ensures capacity { memory self.new ≡ memory self.old }
     /// ensures empty { IfNone result (self.new ≡ self.old) }
     /// ```
+    ///
+    /// Words: [`cursors`](crate::words#cursors-of-slotmap_list-sequence), [`elements`](crate::words#elements), [`IsSpent`](crate::words#isspent), [`KeepsSpent`](crate::words#keepsspent), [`Leaves`](crate::words#leaves), [`memory`](crate::words#memory-of-slotmap_list-sequence), [`Removes`](crate::words#removes), [`TakesFront`](crate::words#takesfront), [`value_of`](crate::words#value_of-of-slotmap_list-sequence).
     pub fn pop_front(&mut self) -> Option<(K, T)>
     {
         let cursor = self.first()?;
@@ -109,6 +113,8 @@ impl<K: Key, T: Sized> StableList<K, T> {
     /// ensures capacity { memory self.new ≡ memory self.old }
     /// ensures empty { IfNone result (self.new ≡ self.old) }
     /// ```
+    ///
+    /// Words: [`cursors`](crate::words#cursors-of-slotmap_list-sequence), [`elements`](crate::words#elements), [`IsSpent`](crate::words#isspent), [`KeepsSpent`](crate::words#keepsspent), [`Leaves`](crate::words#leaves), [`memory`](crate::words#memory-of-slotmap_list-sequence), [`Removes`](crate::words#removes), [`TakesBack`](crate::words#takesback), [`value_of`](crate::words#value_of-of-slotmap_list-sequence).
     pub fn pop_back(&mut self) -> Option<(K, T)>
     {
         let cursor = key_at(&self.values, self.links.last(0))?;
@@ -143,6 +149,8 @@ impl<K: Key, T: Sized> StableList<K, T> {
     /// ensures leaves { Leaves self.old.cursors self.new.cursors }
     /// ensures capacity { memory self.new ≡ memory self.old }
     /// ```
+    ///
+    /// Words: [`cursors`](crate::words#cursors-of-slotmap_list-sequence), [`elements`](crate::words#elements), [`IsSpent`](crate::words#isspent), [`KeepsSpent`](crate::words#keepsspent), [`Key`](crate::words#key), [`Leaves`](crate::words#leaves), [`live`](crate::words#live), [`memory`](crate::words#memory-of-slotmap_list-sequence), [`value_of`](crate::words#value_of-of-slotmap_list-sequence).
     pub fn clear(&mut self)
     {
         while self.pop_front().is_some() {}

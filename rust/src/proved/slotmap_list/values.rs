@@ -113,6 +113,8 @@ impl<K: Key, T: Sized> StableList<K, T> {
     /// ```text
     /// ensures { option_copied result ≡ slice_get (list_map (λ e. e.1) self.now.elements) 0 }
     /// ```
+    ///
+    /// Words: [`elements`](crate::words#elements).
     pub fn front(&self) -> Option<&T>
     {
         self.values().next()
@@ -140,6 +142,8 @@ impl<K: Key, T: Sized> StableList<K, T> {
     /// ```text
     /// ensures { option_copied result ≡ slice_get (list_map (λ e. e.1) self.now.elements) (length self.now.elements - 1) }
     /// ```
+    ///
+    /// Words: [`elements`](crate::words#elements).
     pub fn back(&self) -> Option<&T>
     {
         self.values().next_back()
@@ -170,6 +174,8 @@ impl<K: Key, T: Sized> StableList<K, T> {
     /// ```text
     /// ensures { result ≡ list_map (λ e. e.0) self.now.elements }
     /// ```
+    ///
+    /// Words: [`elements`](crate::words#elements).
     pub fn cursors(&self) -> Cursors<'_, K, T>
     {
         Cursors {
@@ -202,6 +208,8 @@ impl<K: Key, T: Sized> StableList<K, T> {
     /// ```text
     /// ensures { result ≡ list_map (λ e. e.1) self.now.elements }
     /// ```
+    ///
+    /// Words: [`elements`](crate::words#elements).
     pub fn values(&self) -> Values<'_, K, T>
     {
         Values {

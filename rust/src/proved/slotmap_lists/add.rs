@@ -100,6 +100,8 @@ impl<K: Key, T: Sized> StableLists<K, T> {
     /// ensures keeps { OnErr result (Keeps self.old.cursors self.new.cursors) }
     /// ensures gone { KeepsSpent self.old.cursors self.new.cursors }
     /// ```
+    ///
+    /// Words: [`capacity`](crate::words#capacity-of-slotmap_core-content), [`cursors`](crate::words#cursors-of-slotmap_lists-sequences), [`elements_of`](crate::words#elements_of), [`first_or`](crate::words#first_or-of-slotmap_list-sequence), [`HasVacant`](crate::words#hasvacant), [`Inserts`](crate::words#inserts), [`IsSpent`](crate::words#isspent), [`Keeps`](crate::words#keeps), [`KeepsSpent`](crate::words#keepsspent), [`Key`](crate::words#key), [`lists`](crate::words#lists), [`memory`](crate::words#memory-of-slotmap_lists-sequences), [`number_with`](crate::words#number_with), [`RefusesAdd`](crate::words#refusesadd), [`room`](crate::words#room-of-slotmap_core-content), [`used`](crate::words#used), [`value_under`](crate::words#value_under), [`with_elements`](crate::words#with_elements).
     pub fn push_front(&mut self, list: usize, value: T) -> Result<K, AddError<T>>
     {
         self.add(list, Place::Front, value)
@@ -151,6 +153,8 @@ impl<K: Key, T: Sized> StableLists<K, T> {
     /// ensures keeps { OnErr result (Keeps self.old.cursors self.new.cursors) }
     /// ensures gone { KeepsSpent self.old.cursors self.new.cursors }
     /// ```
+    ///
+    /// Words: [`capacity`](crate::words#capacity-of-slotmap_core-content), [`cursors`](crate::words#cursors-of-slotmap_lists-sequences), [`elements_of`](crate::words#elements_of), [`HasVacant`](crate::words#hasvacant), [`Inserts`](crate::words#inserts), [`IsSpent`](crate::words#isspent), [`Keeps`](crate::words#keeps), [`KeepsSpent`](crate::words#keepsspent), [`Key`](crate::words#key), [`last_or`](crate::words#last_or-of-slotmap_list-sequence), [`lists`](crate::words#lists), [`memory`](crate::words#memory-of-slotmap_lists-sequences), [`number_with`](crate::words#number_with), [`RefusesAdd`](crate::words#refusesadd), [`room`](crate::words#room-of-slotmap_core-content), [`used`](crate::words#used), [`value_under`](crate::words#value_under), [`with_elements`](crate::words#with_elements).
     pub fn push_back(&mut self, list: usize, value: T) -> Result<K, AddError<T>>
     {
         self.add(list, Place::Back, value)

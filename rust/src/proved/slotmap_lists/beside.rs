@@ -55,6 +55,8 @@ impl<K: Key, T: Sized> StableLists<K, T> {
     /// ensures keeps { OnErr result (Keeps self.old.cursors self.new.cursors) }
     /// ensures gone { KeepsSpent self.old.cursors self.new.cursors }
     /// ```
+    ///
+    /// Words: [`capacity`](crate::words#capacity-of-slotmap_core-content), [`cursors`](crate::words#cursors-of-slotmap_lists-sequences), [`elements_of`](crate::words#elements_of), [`HasVacant`](crate::words#hasvacant), [`Inserts`](crate::words#inserts), [`IsSpent`](crate::words#isspent), [`Keeps`](crate::words#keeps), [`KeepsSpent`](crate::words#keepsspent), [`Key`](crate::words#key), [`key_before`](crate::words#key_before), [`list_with`](crate::words#list_with), [`lists`](crate::words#lists), [`memory`](crate::words#memory-of-slotmap_lists-sequences), [`number_with`](crate::words#number_with), [`put_before`](crate::words#put_before), [`RefusesBeside`](crate::words#refusesbeside-of-slotmap_lists-refused), [`room`](crate::words#room-of-slotmap_core-content), [`used`](crate::words#used), [`value_under`](crate::words#value_under).
     pub fn insert_before(&mut self, cursor: K, value: T) -> Result<K, PlaceError<T>>
     {
         if !self.contains(cursor) {
@@ -114,6 +116,8 @@ impl<K: Key, T: Sized> StableLists<K, T> {
     /// ensures keeps { OnErr result (Keeps self.old.cursors self.new.cursors) }
     /// ensures gone { KeepsSpent self.old.cursors self.new.cursors }
     /// ```
+    ///
+    /// Words: [`capacity`](crate::words#capacity-of-slotmap_core-content), [`cursors`](crate::words#cursors-of-slotmap_lists-sequences), [`elements_of`](crate::words#elements_of), [`HasVacant`](crate::words#hasvacant), [`Inserts`](crate::words#inserts), [`IsSpent`](crate::words#isspent), [`Keeps`](crate::words#keeps), [`KeepsSpent`](crate::words#keepsspent), [`Key`](crate::words#key), [`key_after`](crate::words#key_after-of-slotmap_list-sequence), [`list_with`](crate::words#list_with), [`lists`](crate::words#lists), [`memory`](crate::words#memory-of-slotmap_lists-sequences), [`number_with`](crate::words#number_with), [`put_after`](crate::words#put_after), [`RefusesBeside`](crate::words#refusesbeside-of-slotmap_lists-refused), [`room`](crate::words#room-of-slotmap_core-content), [`used`](crate::words#used), [`value_under`](crate::words#value_under).
     pub fn insert_after(&mut self, cursor: K, value: T) -> Result<K, PlaceError<T>>
     {
         if !self.contains(cursor) {

@@ -40,6 +40,8 @@ impl<K: Key, T: Sized> StableLists<K, T> {
     /// ensures capacity { memory self.new ≡ memory self.old }
     /// ensures unchanged { elements_of list self.old.lists ≡ [] → self.new ≡ self.old }
     /// ```
+    ///
+    /// Words: [`cursors`](crate::words#cursors-of-slotmap_lists-sequences), [`elements_of`](crate::words#elements_of), [`IsSpent`](crate::words#isspent), [`KeepsSpent`](crate::words#keepsspent), [`Key`](crate::words#key), [`Leaves`](crate::words#leaves), [`lists`](crate::words#lists), [`memory`](crate::words#memory-of-slotmap_lists-sequences), [`value_of`](crate::words#value_of-of-slotmap_list-sequence), [`value_under`](crate::words#value_under).
     pub fn clear_list(&mut self, list: usize)
     {
         while self.pop_front(list).is_some() {}
@@ -80,6 +82,8 @@ impl<K: Key, T: Sized> StableLists<K, T> {
     /// ensures links { self.new.links ≡ self.old.links }
     /// ensures unchanged { result ≡ false → self.new ≡ self.old }
     /// ```
+    ///
+    /// Words: [`cursors`](crate::words#cursors-of-slotmap_lists-sequences), [`elements_of`](crate::words#elements_of), [`Key`](crate::words#key), [`links`](crate::words#links-of-slotmap_lists-sequences), [`lists`](crate::words#lists), [`value_under`](crate::words#value_under).
     pub fn append(&mut self, list: usize, other: usize) -> bool
     {
         if list == other || list >= self.lists() || other >= self.lists() {

@@ -81,6 +81,8 @@ impl<K: Key, T: Sized> StableLists<K, T> {
     /// ensures once { IfSome result IsOnce }
     /// ensures which { IsSome result ↔ (list < length self.now.lists) }
     /// ```
+    ///
+    /// Words: [`elements_of`](crate::words#elements_of), [`IsOnce`](crate::words#isonce-of-slotmap_list-sequence), [`lists`](crate::words#lists).
     pub fn iter(&self, list: usize) -> Option<Iter<'_, K, T>>
     {
         if list >= self.lists() {

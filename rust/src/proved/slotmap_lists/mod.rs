@@ -148,6 +148,8 @@ impl<T: Sized> StableLists<Cursor, T> {
     /// ensures cursors { IfOk result (λ made. IsNew made.cursors) }
     /// ensures err { IfErr result (RefusesCapacity lists) }
     /// ```
+    ///
+    /// Words: [`cursors`](crate::words#cursors-of-slotmap_lists-sequences), [`IsNew`](crate::words#isnew), [`lists`](crate::words#lists), [`RefusesCapacity`](crate::words#refusescapacity).
     pub fn new(alloc: Global, lists: usize) -> Result<Self, ReserveError>
     {
         StableLists::with_key(alloc, lists)
@@ -179,6 +181,8 @@ impl<T: Sized> StableLists<Cursor, T> {
     /// ensures room { IfOk result (λ made. capacity ≤ made.cursors.room) }
     /// ensures err { IfErr result (RefusesCapacity (max lists capacity)) }
     /// ```
+    ///
+    /// Words: [`cursors`](crate::words#cursors-of-slotmap_lists-sequences), [`IsNew`](crate::words#isnew), [`lists`](crate::words#lists), [`RefusesCapacity`](crate::words#refusescapacity), [`room`](crate::words#room-of-slotmap_core-content).
     pub fn with_capacity(alloc: Global, lists: usize, capacity: usize) -> Result<Self, ReserveError>
     {
         StableLists::with_capacity_and_key(alloc, lists, capacity)
@@ -209,6 +213,8 @@ impl<K: Key, T: Sized> StableLists<K, T> {
     /// ensures cursors { IfOk result (λ made. IsNew made.cursors) }
     /// ensures err { IfErr result (RefusesCapacity lists) }
     /// ```
+    ///
+    /// Words: [`cursors`](crate::words#cursors-of-slotmap_lists-sequences), [`IsNew`](crate::words#isnew), [`lists`](crate::words#lists), [`RefusesCapacity`](crate::words#refusescapacity).
     pub fn with_key(alloc: Global, lists: usize) -> Result<Self, ReserveError>
     {
         StableLists::with_capacity_and_key(alloc, lists, 0)
@@ -239,6 +245,8 @@ impl<K: Key, T: Sized> StableLists<K, T> {
     /// ensures room { IfOk result (λ made. capacity ≤ made.cursors.room) }
     /// ensures err { IfErr result (RefusesCapacity (max lists capacity)) }
     /// ```
+    ///
+    /// Words: [`cursors`](crate::words#cursors-of-slotmap_lists-sequences), [`IsNew`](crate::words#isnew), [`lists`](crate::words#lists), [`RefusesCapacity`](crate::words#refusescapacity), [`room`](crate::words#room-of-slotmap_core-content).
     pub fn with_capacity_and_key(
         alloc: Global,
         lists: usize,
@@ -281,6 +289,8 @@ impl<K: Key, T: Sized> StableLists<K, T> {
     /// ensures value { result ≡ length self.now.lists }
     /// ensures limit { result < 2 ^ 32 }
     /// ```
+    ///
+    /// Words: [`lists`](crate::words#lists).
     pub fn lists(&self) -> usize
     {
         self.links.owners()
@@ -310,6 +320,8 @@ impl<K: Key, T: Sized> StableLists<K, T> {
     /// ensures live { result ≡ map.len self.now.cursors.live }
     /// ensures same_keys { (k : KeyOf) → map.contains_key self.now.cursors.live k ≡ is_some (value_under k self.now.lists) }
     /// ```
+    ///
+    /// Words: [`all_elements`](crate::words#all_elements), [`cursors`](crate::words#cursors-of-slotmap_lists-sequences), [`IsOnce`](crate::words#isonce-of-slotmap_list-sequence), [`Key`](crate::words#key), [`lists`](crate::words#lists), [`live`](crate::words#live), [`value_under`](crate::words#value_under).
     pub fn len(&self) -> usize
     {
         self.values.len()
@@ -335,6 +347,8 @@ impl<K: Key, T: Sized> StableLists<K, T> {
     /// ```text
     /// ensures { IsTrue result ↔ (length (all_elements self.now.lists) ≡ 0) }
     /// ```
+    ///
+    /// Words: [`all_elements`](crate::words#all_elements), [`lists`](crate::words#lists).
     pub fn is_empty(&self) -> bool
     {
         self.len() == 0
@@ -359,6 +373,8 @@ impl<K: Key, T: Sized> StableLists<K, T> {
     /// ```text
     /// ensures { result ≡ length (elements_of list self.now.lists) }
     /// ```
+    ///
+    /// Words: [`elements_of`](crate::words#elements_of), [`lists`](crate::words#lists).
     pub fn list_len(&self, list: usize) -> usize
     {
         if list >= self.lists() {
@@ -389,6 +405,8 @@ impl<K: Key, T: Sized> StableLists<K, T> {
     /// ensures value { result ≡ is_some (value_under (K.data_of cursor) self.now.lists) }
     /// ensures live { result ≡ map.contains_key self.now.cursors.live (K.data_of cursor) }
     /// ```
+    ///
+    /// Words: [`cursors`](crate::words#cursors-of-slotmap_lists-sequences), [`lists`](crate::words#lists), [`live`](crate::words#live), [`value_under`](crate::words#value_under).
     pub fn contains(&self, cursor: K) -> bool
     {
         self.values.contains_key(cursor)
@@ -416,6 +434,8 @@ impl<K: Key, T: Sized> StableLists<K, T> {
     /// ```text
     /// ensures { result ≡ number_with (K.data_of cursor) self.now.lists }
     /// ```
+    ///
+    /// Words: [`lists`](crate::words#lists), [`number_with`](crate::words#number_with).
     pub fn list_of(&self, cursor: K) -> Option<usize>
     {
         if !self.contains(cursor) {
@@ -453,6 +473,8 @@ impl<K: Key, T: Sized> StableLists<K, T> {
     /// ensures value { option_copied result ≡ value_under (K.data_of cursor) self.now.lists }
     /// ensures gone { IsSpent self.now.cursors (K.data_of cursor) → result ≡ None }
     /// ```
+    ///
+    /// Words: [`cursors`](crate::words#cursors-of-slotmap_lists-sequences), [`IsSpent`](crate::words#isspent), [`lists`](crate::words#lists), [`value_under`](crate::words#value_under).
     pub fn get(&self, cursor: K) -> Option<&T>
     {
         self.values.get(cursor)
@@ -481,6 +503,8 @@ impl<K: Key, T: Sized> StableLists<K, T> {
     /// ensures stands { IfSome result (λ key. is_some (value_under (K.data_of key) self.now.lists) ≡ true) }
     /// ensures in_list { IfSome result (λ key. number_with (K.data_of key) self.now.lists ≡ Some list) }
     /// ```
+    ///
+    /// Words: [`elements_of`](crate::words#elements_of), [`first_or`](crate::words#first_or-of-slotmap_list-sequence), [`lists`](crate::words#lists), [`number_with`](crate::words#number_with), [`value_under`](crate::words#value_under).
     pub fn first(&self, list: usize) -> Option<K>
     {
         if list >= self.lists() {
@@ -511,6 +535,8 @@ impl<K: Key, T: Sized> StableLists<K, T> {
     /// ensures stands { IfSome result (λ key. is_some (value_under (K.data_of key) self.now.lists) ≡ true) }
     /// ensures in_list { IfSome result (λ key. number_with (K.data_of key) self.now.lists ≡ Some list) }
     /// ```
+    ///
+    /// Words: [`elements_of`](crate::words#elements_of), [`last_or`](crate::words#last_or-of-slotmap_list-sequence), [`lists`](crate::words#lists), [`number_with`](crate::words#number_with), [`value_under`](crate::words#value_under).
     pub fn last(&self, list: usize) -> Option<K>
     {
         if list >= self.lists() {
@@ -542,6 +568,8 @@ impl<K: Key, T: Sized> StableLists<K, T> {
     /// ensures stands { IfSome result (λ key. is_some (value_under (K.data_of key) self.now.lists) ≡ true) }
     /// ensures in_list { IfSome result (λ key. number_with (K.data_of key) self.now.lists ≡ number_with (K.data_of cursor) self.now.lists) }
     /// ```
+    ///
+    /// Words: [`key_after`](crate::words#key_after-of-slotmap_list-sequence), [`list_with`](crate::words#list_with), [`lists`](crate::words#lists), [`number_with`](crate::words#number_with), [`value_under`](crate::words#value_under).
     pub fn next(&self, cursor: K) -> Option<K>
     {
         if !self.values.contains_key(cursor) {
@@ -573,6 +601,8 @@ impl<K: Key, T: Sized> StableLists<K, T> {
     /// ensures stands { IfSome result (λ key. is_some (value_under (K.data_of key) self.now.lists) ≡ true) }
     /// ensures in_list { IfSome result (λ key. number_with (K.data_of key) self.now.lists ≡ number_with (K.data_of cursor) self.now.lists) }
     /// ```
+    ///
+    /// Words: [`key_before`](crate::words#key_before), [`list_with`](crate::words#list_with), [`lists`](crate::words#lists), [`number_with`](crate::words#number_with), [`value_under`](crate::words#value_under).
     pub fn prev(&self, cursor: K) -> Option<K>
     {
         if !self.values.contains_key(cursor) {

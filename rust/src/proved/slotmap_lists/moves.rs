@@ -32,6 +32,8 @@ impl<K: Key, T: Sized> StableLists<K, T> {
     /// ensures* writes_back { sem 𝓛 (lends_in K.row T.row self.entry (K.data_of cursor) result) }
     /// ensures value { option_copied_mut result ≡ value_under (K.data_of cursor) self.old.lists }
     /// ```
+    ///
+    /// Words: [`lends_in`](crate::words#lends_in), [`lists`](crate::words#lists), [`value_under`](crate::words#value_under).
     pub fn get_mut(&mut self, cursor: K) -> Option<&mut T>
     {
         match self.values.get_mut(cursor) {
@@ -73,6 +75,8 @@ impl<K: Key, T: Sized> StableLists<K, T> {
     /// ensures values { (q : KeyOf) → value_under q self.new.lists ≡ value_under q self.old.lists }
     /// ensures as_many { length self.new.lists ≡ length self.old.lists }
     /// ```
+    ///
+    /// Words: [`can_move_to`](crate::words#can_move_to), [`elements_of`](crate::words#elements_of), [`first_or`](crate::words#first_or-of-slotmap_list-sequence), [`Key`](crate::words#key), [`lists`](crate::words#lists), [`moved_to_front_of`](crate::words#moved_to_front_of), [`number_with`](crate::words#number_with), [`value_under`](crate::words#value_under), [`without`](crate::words#without-of-slotmap_list-sequence).
     pub fn move_to_front(&mut self, cursor: K, list: usize) -> bool
     {
         if !self.can_move_to(cursor, list) {
@@ -115,6 +119,8 @@ impl<K: Key, T: Sized> StableLists<K, T> {
     /// ensures values { (q : KeyOf) → value_under q self.new.lists ≡ value_under q self.old.lists }
     /// ensures as_many { length self.new.lists ≡ length self.old.lists }
     /// ```
+    ///
+    /// Words: [`can_move_to`](crate::words#can_move_to), [`elements_of`](crate::words#elements_of), [`Key`](crate::words#key), [`last_or`](crate::words#last_or-of-slotmap_list-sequence), [`lists`](crate::words#lists), [`moved_to_back_of`](crate::words#moved_to_back_of), [`number_with`](crate::words#number_with), [`value_under`](crate::words#value_under), [`without`](crate::words#without-of-slotmap_list-sequence).
     pub fn move_to_back(&mut self, cursor: K, list: usize) -> bool
     {
         if !self.can_move_to(cursor, list) {
@@ -156,6 +162,8 @@ impl<K: Key, T: Sized> StableLists<K, T> {
     /// ensures values { (q : KeyOf) → value_under q self.new.lists ≡ value_under q self.old.lists }
     /// ensures as_many { length self.new.lists ≡ length self.old.lists }
     /// ```
+    ///
+    /// Words: [`are_two_in`](crate::words#are_two_in), [`elements_of`](crate::words#elements_of), [`Key`](crate::words#key), [`key_before`](crate::words#key_before), [`list_with`](crate::words#list_with), [`lists`](crate::words#lists), [`moved_ahead`](crate::words#moved_ahead), [`number_with`](crate::words#number_with), [`value_under`](crate::words#value_under), [`without`](crate::words#without-of-slotmap_list-sequence).
     pub fn move_before(&mut self, cursor: K, other: K) -> bool
     {
         if !self.has_two(cursor, other) {
@@ -198,6 +206,8 @@ impl<K: Key, T: Sized> StableLists<K, T> {
     /// ensures values { (q : KeyOf) → value_under q self.new.lists ≡ value_under q self.old.lists }
     /// ensures as_many { length self.new.lists ≡ length self.old.lists }
     /// ```
+    ///
+    /// Words: [`are_two_in`](crate::words#are_two_in), [`elements_of`](crate::words#elements_of), [`Key`](crate::words#key), [`key_after`](crate::words#key_after-of-slotmap_list-sequence), [`list_with`](crate::words#list_with), [`lists`](crate::words#lists), [`moved_behind`](crate::words#moved_behind), [`number_with`](crate::words#number_with), [`value_under`](crate::words#value_under), [`without`](crate::words#without-of-slotmap_list-sequence).
     pub fn move_after(&mut self, cursor: K, other: K) -> bool
     {
         if !self.has_two(cursor, other) {

@@ -71,6 +71,8 @@ impl<K: Key, T: Sized> StableLists<K, T> {
     /// ensures keeps { Keeps self.old.cursors self.new.cursors }
     /// ensures gone { KeepsSpent self.old.cursors self.new.cursors }
     /// ```
+    ///
+    /// Words: [`capacity`](crate::words#capacity-of-slotmap_core-content), [`cursors`](crate::words#cursors-of-slotmap_lists-sequences), [`Keeps`](crate::words#keeps), [`KeepsSpent`](crate::words#keepsspent), [`lists`](crate::words#lists), [`MakesRoom`](crate::words#makesroom), [`next`](crate::words#next), [`RefusesCapacity`](crate::words#refusescapacity), [`room`](crate::words#room-of-slotmap_core-content), [`used`](crate::words#used).
     #[inline(never)]
     pub fn reserve(&mut self, additional: usize) -> Result<(), ReserveError>
     {
@@ -105,6 +107,8 @@ impl<K: Key, T: Sized> StableLists<K, T> {
     /// ensures exact { result ≡ used self.now.cursors + self.now.cursors.room }
     /// ensures valid { IsContent true self.now.cursors }
     /// ```
+    ///
+    /// Words: [`bound`](crate::words#bound), [`cursors`](crate::words#cursors-of-slotmap_lists-sequences), [`IsContent`](crate::words#iscontent), [`room`](crate::words#room-of-slotmap_core-content), [`used`](crate::words#used).
     pub fn capacity(&self) -> usize
     {
         self.values.capacity()

@@ -41,6 +41,8 @@ impl<K: Key, T: Sized> StableLists<K, T> {
     /// ensures capacity { memory self.new ≡ memory self.old }
     /// ensures stale { IfNone result (self.new ≡ self.old) }
     /// ```
+    ///
+    /// Words: [`cursors`](crate::words#cursors-of-slotmap_lists-sequences), [`elements_of`](crate::words#elements_of), [`IsSpent`](crate::words#isspent), [`KeepsSpent`](crate::words#keepsspent), [`Key`](crate::words#key), [`Leaves`](crate::words#leaves), [`lists`](crate::words#lists), [`memory`](crate::words#memory-of-slotmap_lists-sequences), [`Removes`](crate::words#removes), [`value_under`](crate::words#value_under), [`without`](crate::words#without-of-slotmap_list-sequence), [`without_key`](crate::words#without_key).
     pub fn remove(&mut self, cursor: K) -> Option<T>
     {
         let value = self.values.remove(cursor)?;
@@ -84,6 +86,8 @@ impl<K: Key, T: Sized> StableLists<K, T> {
     /// ensures capacity { memory self.new ≡ memory self.old }
     /// ensures empty { IfNone result (self.new ≡ self.old) }
     /// ```
+    ///
+    /// Words: [`cursors`](crate::words#cursors-of-slotmap_lists-sequences), [`elements_of`](crate::words#elements_of), [`IsSpent`](crate::words#isspent), [`KeepsSpent`](crate::words#keepsspent), [`Key`](crate::words#key), [`Leaves`](crate::words#leaves), [`lists`](crate::words#lists), [`memory`](crate::words#memory-of-slotmap_lists-sequences), [`Removes`](crate::words#removes), [`TakesFront`](crate::words#takesfront), [`value_under`](crate::words#value_under), [`without_key`](crate::words#without_key).
     pub fn pop_front(&mut self, list: usize) -> Option<(K, T)>
     {
         // By what `len` ensures, no cursor stands twice.
@@ -127,6 +131,8 @@ impl<K: Key, T: Sized> StableLists<K, T> {
     /// ensures capacity { memory self.new ≡ memory self.old }
     /// ensures empty { IfNone result (self.new ≡ self.old) }
     /// ```
+    ///
+    /// Words: [`cursors`](crate::words#cursors-of-slotmap_lists-sequences), [`elements_of`](crate::words#elements_of), [`IsSpent`](crate::words#isspent), [`KeepsSpent`](crate::words#keepsspent), [`Key`](crate::words#key), [`Leaves`](crate::words#leaves), [`lists`](crate::words#lists), [`memory`](crate::words#memory-of-slotmap_lists-sequences), [`Removes`](crate::words#removes), [`TakesBack`](crate::words#takesback), [`value_under`](crate::words#value_under), [`without_key`](crate::words#without_key).
     pub fn pop_back(&mut self, list: usize) -> Option<(K, T)>
     {
         // By what `len` ensures, no cursor stands twice.

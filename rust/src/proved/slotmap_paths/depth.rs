@@ -181,6 +181,8 @@ fn visit_from<K: Key, N: Sized, E: Sized>(
 /// ensures in_order { IfOk result (λ order. IsPostOrder graph.now.edges.live (list_map K.data_of order.items)) }
 /// ensures backward { IfOk result (λ order. (HasCycle graph.now.edges.live → ⊥) → GoesBackward graph.now.edges.live (list_map K.data_of order.items)) }
 /// ```
+///
+/// Words: [`edges`](crate::words#edges-of-slotmap_graph-parts), [`GoesBackward`](crate::words#goesbackward), [`HasCycle`](crate::words#hascycle), [`IsPostOrder`](crate::words#ispostorder), [`Key`](crate::words#key), [`live`](crate::words#live), [`nodes`](crate::words#nodes-of-slotmap_graph-parts), [`times`](crate::words#times).
 pub fn post_order<K: Key, N: Sized, E: Sized>(
     alloc: Global,
     graph: &Graph<K, N, E>,
@@ -227,6 +229,8 @@ pub fn post_order<K: Key, N: Sized, E: Sized>(
 /// ensures last { IfOk result (λ order. IsLive graph.now.nodes (K.data_of start) → last_or (list_map K.data_of order.items) None ≡ Some (K.data_of start)) }
 /// ensures in_order { IfOk result (λ order. IsPostOrder graph.now.edges.live (list_map K.data_of order.items)) }
 /// ```
+///
+/// Words: [`edges`](crate::words#edges-of-slotmap_graph-parts), [`IsLive`](crate::words#islive), [`IsPostOrder`](crate::words#ispostorder), [`Key`](crate::words#key), [`last_or`](crate::words#last_or-of-slotmap_bounded-keylists), [`Leads`](crate::words#leads), [`live`](crate::words#live), [`nodes`](crate::words#nodes-of-slotmap_graph-parts), [`times`](crate::words#times).
 pub fn post_order_from<K: Key, N: Sized, E: Sized>(
     alloc: Global,
     graph: &Graph<K, N, E>,

@@ -140,6 +140,8 @@ fn add_components<K: Key, N: Sized, E: Sized>(
 /// ensures each { IfOk result (λ components. All (IsComponent graph.now.edges.live) (list_map (λ c. list_map K.data_of c.items) components.items)) }
 /// ensures onward { IfOk result (λ components. LeadOnward graph.now.edges.live (list_map (λ c. list_map K.data_of c.items) components.items)) }
 /// ```
+///
+/// Words: [`edges`](crate::words#edges-of-slotmap_graph-parts), [`IsComponent`](crate::words#iscomponent), [`Key`](crate::words#key), [`LeadOnward`](crate::words#leadonward), [`live`](crate::words#live), [`nodes`](crate::words#nodes-of-slotmap_graph-parts), [`times_in`](crate::words#times_in).
 pub fn kosaraju_scc<K: Key, N: Sized, E: Sized>(
     alloc: Global,
     graph: &Graph<K, N, E>,

@@ -167,6 +167,8 @@ pub enum PathError {
 /// // Why the call failed.
 /// ensures err { IfErr result (RefusesPaths graph.now.edges.live costs.now.pairs (K.data_of from)) }
 /// ```
+///
+/// Words: [`AreTraced`](crate::words#aretraced), [`ComesBy`](crate::words#comesby), [`contains_key`](crate::words#contains_key), [`edges`](crate::words#edges-of-slotmap_graph-parts), [`get`](crate::words#get), [`HaveCosts`](crate::words#havecosts), [`IsBeside`](crate::words#isbeside), [`IsLive`](crate::words#islive), [`IsSum`](crate::words#issum), [`Key`](crate::words#key), [`Leads`](crate::words#leads), [`live`](crate::words#live), [`nodes`](crate::words#nodes-of-slotmap_graph-parts), [`pairs`](crate::words#pairs-of-slotmap_secondary-content), [`RefusesPaths`](crate::words#refusespaths).
 pub fn shortest_paths<K: Key, N: Sized, E: Sized>(
     alloc: Global,
     graph: &Graph<K, N, E>,

@@ -78,6 +78,8 @@ fn step_back<K: Key, N: Sized, E: Sized>(
 /// ensures few { IfOk result (λ found. IfSome found (λ edges. length edges.items ≤ map.len paths.now.pairs)) }
 /// ensures none { IfOk result (λ found. contains_key paths.now.pairs (K.data_of node) ≡ false → found ≡ None) }
 /// ```
+///
+/// Words: [`AddUp`](crate::words#addup), [`AreTraced`](crate::words#aretraced), [`contains_key`](crate::words#contains_key), [`edges`](crate::words#edges-of-slotmap_graph-parts), [`get`](crate::words#get), [`IsRoute`](crate::words#isroute), [`Key`](crate::words#key), [`live`](crate::words#live), [`Pairs`](crate::words#pairs-of-slotmap_core-secondary), [`pairs`](crate::words#pairs-of-slotmap_secondary-content).
 pub fn path_to<K: Key, N: Sized, E: Sized>(
     alloc: Global,
     graph: &Graph<K, N, E>,

@@ -162,6 +162,8 @@ where
 /// ensures unchanged { OnErr result ((M.content primary.new ≡ M.content primary.old)
 ///     × (S.pairs secondary.new ≡ S.pairs secondary.old)) }
 /// ```
+///
+/// Words: [`DictionaryStep`](crate::words#dictionarystep), [`given_joined`](crate::words#given_joined), [`JoinedRemovedForGood`](crate::words#joinedremovedforgood), [`JoinedStep`](crate::words#joinedstep), [`RunsBeside`](crate::words#runsbeside), [`RunsByDictionary`](crate::words#runsbydictionary), [`Starts`](crate::words#starts).
 pub fn run_joined<M, S, K, V, W, R, L>(
     alloc: Global,
     primary: &mut M,
@@ -278,6 +280,8 @@ where
 /// ensures unchanged { OnErr result ((M.content primary.new ≡ M.content primary.old)
 ///     × (S.pairs secondary.new ≡ S.pairs secondary.old)) }
 /// ```
+///
+/// Words: [`DetachDictionaryStep`](crate::words#detachdictionarystep), [`given_joined`](crate::words#given_joined), [`JoinedDetachStep`](crate::words#joineddetachstep), [`JoinedRemovedForGood`](crate::words#joinedremovedforgood), [`RunsBeside`](crate::words#runsbeside), [`RunsByDictionary`](crate::words#runsbydictionary), [`Starts`](crate::words#starts).
 pub fn run_joined_detaching<M, S, K, V, W, R, L>(
     alloc: Global,
     primary: &mut M,

@@ -140,6 +140,8 @@ where
 /// ensures err { IfErr result (λ back. back ≡ commands) }
 /// ensures unchanged { OnErr result (M.content map.new ≡ M.content map.old) }
 /// ```
+///
+/// Words: [`any_closures`](crate::words#any_closures), [`Continues`](crate::words#continues), [`given`](crate::words#given), [`known_from`](crate::words#known_from), [`Laws`](crate::words#laws), [`RunFollows`](crate::words#runfollows), [`Starts`](crate::words#starts), [`Step`](crate::words#step).
 pub fn run<M, K, V, R, E, L, P, N>(
     alloc: Global,
     map: &mut M,
@@ -238,6 +240,8 @@ where
 /// // If there is no memory for the replies or the map, nothing is run.
 /// ensures err { IfErr result (λ back. back ≡ commands) }
 /// ```
+///
+/// Words: [`absent`](crate::words#absent), [`any_closures`](crate::words#any_closures), [`given`](crate::words#given), [`IndexStaysSmall`](crate::words#indexstayssmall), [`Laws`](crate::words#laws), [`RunsAnew`](crate::words#runsanew), [`Step`](crate::words#step), [`Unretiring`](crate::words#unretiring).
 pub fn run_new<M, K, V, R, E, L, P, N>(
     alloc: Global,
     commands: Vec<Command<K, V>>,
@@ -343,6 +347,8 @@ where
 /// ensures err { IfErr result (λ back. back ≡ commands) }
 /// ensures unchanged { OnErr result (M.content map.new ≡ M.content map.old) }
 /// ```
+///
+/// Words: [`any_closures`](crate::words#any_closures), [`Continues`](crate::words#continues), [`DetachLaws`](crate::words#detachlaws), [`DetachStep`](crate::words#detachstep), [`given`](crate::words#given), [`known_from`](crate::words#known_from), [`RunFollows`](crate::words#runfollows), [`Starts`](crate::words#starts).
 pub fn run_detaching<M, K, V, R, E, L, P, N>(
     alloc: Global,
     map: &mut M,
@@ -432,6 +438,8 @@ where
 /// // If there is no memory for the replies or the map, nothing is run.
 /// ensures err { IfErr result (λ back. back ≡ commands) }
 /// ```
+///
+/// Words: [`absent`](crate::words#absent), [`any_closures`](crate::words#any_closures), [`DetachLaws`](crate::words#detachlaws), [`DetachStep`](crate::words#detachstep), [`given`](crate::words#given), [`IndexStaysSmall`](crate::words#indexstayssmall), [`LastFreedFirst`](crate::words#lastfreedfirst), [`RunsAnew`](crate::words#runsanew), [`Unretiring`](crate::words#unretiring).
 pub fn run_detaching_new<M, K, V, R, E, L, P, N>(
     alloc: Global,
     commands: Vec<DetachCommand<K, V>>,

@@ -93,6 +93,8 @@ where
 /// ensures err { IfErr result (λ back. back ≡ commands) }
 /// ensures unchanged { OnErr result (S.pairs map.new ≡ S.pairs map.old) }
 /// ```
+///
+/// Words: [`EachAgrees`](crate::words#eachagrees), [`given_secondary`](crate::words#given_secondary), [`HadMemory`](crate::words#hadmemory), [`Run`](crate::words#run), [`seen_by`](crate::words#seen_by), [`Shows`](crate::words#shows), [`SideStep`](crate::words#sidestep).
 pub fn run_secondary<S, K, V, R, L>(
     alloc: Global,
     map: &mut S,

@@ -101,6 +101,8 @@ impl<K: Key, T: Sized> Scene<K, T> {
     /// ensures order { GoesUp self.now.nodes.live (parent_of self.now.nodes.live (K.data_of node)) result }
     /// ensures only { (k : KeyOf) → 0 < times k result → has_node self.now.nodes.live k }
     /// ```
+    ///
+    /// Words: [`GoesUp`](crate::words#goesup), [`has_node`](crate::words#has_node), [`Key`](crate::words#key), [`live`](crate::words#live), [`nodes`](crate::words#nodes-of-slotmap_scene-node), [`parent_of`](crate::words#parent_of), [`times`](crate::words#times).
     pub fn ancestors(&self, node: K) -> Ancestors<'_, K, T>
     {
         Ancestors {
@@ -135,6 +137,8 @@ impl<K: Key, T: Sized> Scene<K, T> {
     /// ```text
     /// ensures { result ≡ roots_in self.now.nodes.live }
     /// ```
+    ///
+    /// Words: [`live`](crate::words#live), [`nodes`](crate::words#nodes-of-slotmap_scene-node), [`roots_in`](crate::words#roots_in).
     pub fn roots(&self) -> Roots<'_, K, T>
     {
         Roots {

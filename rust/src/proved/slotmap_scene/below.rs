@@ -105,6 +105,8 @@ impl<K: Key, T: Sized> Scene<K, T> {
     /// ensures stale { lacks_node self.now.nodes.live (K.data_of key) → result ≡ None }
     /// ensures live { IfSome result (λ next. has_node self.now.nodes.live (K.data_of next)) }
     /// ```
+    ///
+    /// Words: [`all_below`](crate::words#all_below), [`behind`](crate::words#behind), [`first_or`](crate::words#first_or-of-slotmap_links-lists), [`has_node`](crate::words#has_node), [`IsWithin`](crate::words#iswithin), [`Key`](crate::words#key), [`lacks_node`](crate::words#lacks_node), [`live`](crate::words#live), [`nodes`](crate::words#nodes-of-slotmap_scene-node), [`parent_of`](crate::words#parent_of), [`times`](crate::words#times).
     pub fn next_below(&self, node: K, key: K) -> Option<K>
     {
         let _ = &self.alloc;
@@ -159,6 +161,8 @@ impl<K: Key, T: Sized> Scene<K, T> {
     /// ensures only { (k : KeyOf) → 0 < times k result → has_node self.now.nodes.live k × IsWithin self.now.nodes.live k (K.data_of node) × (k ≢ K.data_of node) }
     /// ensures once { (k : KeyOf) → times k result ≤ 1 }
     /// ```
+    ///
+    /// Words: [`all_below`](crate::words#all_below), [`children_of`](crate::words#children_of), [`GoesDown`](crate::words#goesdown), [`has_node`](crate::words#has_node), [`IsWithin`](crate::words#iswithin), [`Key`](crate::words#key), [`live`](crate::words#live), [`nodes`](crate::words#nodes-of-slotmap_scene-node), [`times`](crate::words#times).
     pub fn keys_below(&self, node: K) -> KeysBelow<'_, K, T>
     {
         let _ = &self.alloc;
@@ -205,6 +209,8 @@ impl<K: Key, T: Sized> Scene<K, T> {
     ///     × IsWithin self.now.nodes.live (K.data_of key) (K.data_of node) × (K.data_of key ≢ K.data_of node)) keys.items) }
     /// ensures once { IfOk result (λ keys. (k : KeyOf) → times k (list_map K.data_of keys.items) ≤ 1) }
     /// ```
+    ///
+    /// Words: [`all_below`](crate::words#all_below), [`children_of`](crate::words#children_of), [`GoesDown`](crate::words#goesdown), [`has_node`](crate::words#has_node), [`IsWithin`](crate::words#iswithin), [`Key`](crate::words#key), [`live`](crate::words#live), [`nodes`](crate::words#nodes-of-slotmap_scene-node), [`times`](crate::words#times).
     pub fn descendants(&self, node: K) -> Result<Vec<K>, AllocError>
     {
         let mut below = Vec::new(self.alloc);

@@ -33,6 +33,8 @@ impl<K: Key, T: Sized> Scene<K, T> {
     /// ensures some { IfSome result (λ steps. ClimbsTo self.now.nodes.live steps (K.data_of node)) }
     /// ensures none { IfNone result (lacks_node self.now.nodes.live (K.data_of node)) }
     /// ```
+    ///
+    /// Words: [`ClimbsTo`](crate::words#climbsto), [`lacks_node`](crate::words#lacks_node), [`live`](crate::words#live), [`nodes`](crate::words#nodes-of-slotmap_scene-node).
     pub fn depth(&self, node: K) -> Option<usize>
     {
         let mut at = inner(node);
@@ -70,6 +72,8 @@ impl<K: Key, T: Sized> Scene<K, T> {
     /// ```text
     /// ensures { IsTrue result ↔ (has_node self.now.nodes.live (K.data_of node) × IsWithin self.now.nodes.live (K.data_of node) (K.data_of other)) }
     /// ```
+    ///
+    /// Words: [`has_node`](crate::words#has_node), [`IsWithin`](crate::words#iswithin), [`live`](crate::words#live), [`nodes`](crate::words#nodes-of-slotmap_scene-node).
     pub fn is_within(&self, node: K, other: K) -> bool
     {
         let mut at = inner(node);

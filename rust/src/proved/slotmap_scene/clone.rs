@@ -49,6 +49,8 @@ impl<K: Key, T: Clone> Scene<K, T> {
     /// ensures capacity { IfOk result (λ copy. bound copy.nodes ≡ bound self.now.nodes) }
     /// ensures room { IfOk result (λ copy. copy.nodes.room ≡ self.now.nodes.room) }
     /// ```
+    ///
+    /// Words: [`bound`](crate::words#bound), [`ClonesEqual`](crate::words#clonesequal), [`IsCloneBy`](crate::words#iscloneby), [`IsCopy`](crate::words#iscopy), [`IsNodeClone`](crate::words#isnodeclone), [`nodes`](crate::words#nodes-of-slotmap_scene-node), [`room`](crate::words#room-of-slotmap_core-content).
     pub fn clone(&self) -> Result<Self, AllocError>
     {
         Ok(Scene {

@@ -68,6 +68,8 @@ impl<K: Key, T: Sized> Scene<K, T> {
     /// ensures in_place { 0 < self.old.nodes.room → memory self.new ≡ memory self.old }
     /// ensures unchanged { OnErr result (Keeps self.old.nodes self.new.nodes) }
     /// ```
+    ///
+    /// Words: [`capacity`](crate::words#capacity-of-slotmap_core-content), [`child`](crate::words#child), [`children_of`](crate::words#children_of), [`HasVacant`](crate::words#hasvacant), [`Inserts`](crate::words#inserts), [`IsNewChild`](crate::words#isnewchild), [`IsSpent`](crate::words#isspent), [`Keeps`](crate::words#keeps), [`KeepsSpent`](crate::words#keepsspent), [`Key`](crate::words#key), [`lacks_node`](crate::words#lacks_node), [`live`](crate::words#live), [`memory`](crate::words#memory-of-slotmap_scene-node), [`nodes`](crate::words#nodes-of-slotmap_scene-node), [`parent_of`](crate::words#parent_of), [`placed`](crate::words#placed), [`RefusesSibling`](crate::words#refusessibling), [`right_before`](crate::words#right_before), [`room`](crate::words#room-of-slotmap_core-content), [`with_sibling`](crate::words#with_sibling).
     pub fn insert_before(&mut self, sibling: K, value: T) -> Result<K, AddError<T>>
     {
         Ok(outer(self.insert(Side::Before, inner(sibling), value)?))
@@ -118,6 +120,8 @@ impl<K: Key, T: Sized> Scene<K, T> {
     /// ensures in_place { 0 < self.old.nodes.room → memory self.new ≡ memory self.old }
     /// ensures unchanged { OnErr result (Keeps self.old.nodes self.new.nodes) }
     /// ```
+    ///
+    /// Words: [`capacity`](crate::words#capacity-of-slotmap_core-content), [`child`](crate::words#child), [`children_of`](crate::words#children_of), [`HasVacant`](crate::words#hasvacant), [`Inserts`](crate::words#inserts), [`IsNewChild`](crate::words#isnewchild), [`IsSpent`](crate::words#isspent), [`Keeps`](crate::words#keeps), [`KeepsSpent`](crate::words#keepsspent), [`Key`](crate::words#key), [`lacks_node`](crate::words#lacks_node), [`live`](crate::words#live), [`memory`](crate::words#memory-of-slotmap_scene-node), [`nodes`](crate::words#nodes-of-slotmap_scene-node), [`parent_of`](crate::words#parent_of), [`placed`](crate::words#placed), [`RefusesSibling`](crate::words#refusessibling), [`right_behind`](crate::words#right_behind), [`room`](crate::words#room-of-slotmap_core-content), [`with_sibling`](crate::words#with_sibling).
     pub fn insert_after(&mut self, sibling: K, value: T) -> Result<K, AddError<T>>
     {
         Ok(outer(self.insert(Side::After, inner(sibling), value)?))

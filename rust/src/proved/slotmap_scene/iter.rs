@@ -171,6 +171,8 @@ impl<K: Key, T: Sized> Scene<K, T> {
     /// ```text
     /// ensures { result ≡ list_map key_and_value (map.entries self.now.nodes.live) }
     /// ```
+    ///
+    /// Words: [`key_and_value`](crate::words#key_and_value), [`live`](crate::words#live), [`nodes`](crate::words#nodes-of-slotmap_scene-node).
     pub fn iter(&self) -> Iter<'_, K, T>
     {
         Iter {
@@ -204,6 +206,8 @@ impl<K: Key, T: Sized> Scene<K, T> {
     /// ```text
     /// ensures { result ≡ map.keys self.now.nodes.live }
     /// ```
+    ///
+    /// Words: [`live`](crate::words#live), [`nodes`](crate::words#nodes-of-slotmap_scene-node).
     pub fn keys(&self) -> Keys<'_, K, T>
     {
         Keys { nodes: self.iter() }
@@ -235,6 +239,8 @@ impl<K: Key, T: Sized> Scene<K, T> {
     /// ```text
     /// ensures { result ≡ list_map (λ e. e.1.value) (map.entries self.now.nodes.live) }
     /// ```
+    ///
+    /// Words: [`live`](crate::words#live), [`nodes`](crate::words#nodes-of-slotmap_scene-node), [`value`](crate::words#value-of-slotmap_scene-node).
     pub fn values(&self) -> Values<'_, K, T>
     {
         Values { nodes: self.iter() }

@@ -73,6 +73,8 @@ impl<K: Key, T: HasTransform> Scene<K, T> {
     /// ensures once { IfOk result (λ all. (k : KeyOf) → times k (keys_of_pairs K.data_of all.items) ≤ 1) }
     /// ensures count { IfOk result (λ all. length all.items ≡ map.len self.now.nodes.live) }
     /// ```
+    ///
+    /// Words: [`AreWorlds`](crate::words#areworlds), [`GoesByLevel`](crate::words#goesbylevel), [`has_node`](crate::words#has_node), [`IsComposed`](crate::words#iscomposed), [`Joins`](crate::words#joins), [`Key`](crate::words#key), [`keys_of_pairs`](crate::words#keys_of_pairs), [`live`](crate::words#live), [`nodes`](crate::words#nodes-of-slotmap_scene-node), [`times`](crate::words#times).
     pub fn world_transforms(&self) -> Result<Vec<(K, T::Transform)>, AllocError>
     {
         let mut all = Vec::with_capacity(self.alloc, self.len())?;

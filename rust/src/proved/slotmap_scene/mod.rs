@@ -175,6 +175,8 @@ impl<T: Sized> Scene<DefaultKey, T> {
     /// ensures empty { IfOk result (λ scene. IsNew scene.nodes) }
     /// ensures err { IfErr result (λ error. error ≡ ReserveError.Memory) }
     /// ```
+    ///
+    /// Words: [`IsNew`](crate::words#isnew), [`nodes`](crate::words#nodes-of-slotmap_scene-node).
     pub fn new(alloc: Global) -> Result<Self, ReserveError>
     {
         Scene::with_key(alloc)
@@ -204,6 +206,8 @@ impl<T: Sized> Scene<DefaultKey, T> {
     /// ensures room { IfOk result (λ scene. capacity ≤ scene.nodes.room) }
     /// ensures err { IfErr result (RefusesCapacity capacity) }
     /// ```
+    ///
+    /// Words: [`IsNew`](crate::words#isnew), [`nodes`](crate::words#nodes-of-slotmap_scene-node), [`RefusesCapacity`](crate::words#refusescapacity), [`room`](crate::words#room-of-slotmap_core-content).
     pub fn with_capacity(alloc: Global, capacity: usize) -> Result<Self, ReserveError>
     {
         Scene::with_capacity_and_key(alloc, capacity)
@@ -233,6 +237,8 @@ impl<K: Key, T: Sized> Scene<K, T> {
     /// ensures empty { IfOk result (λ scene. IsNew scene.nodes) }
     /// ensures err { IfErr result (λ error. error ≡ ReserveError.Memory) }
     /// ```
+    ///
+    /// Words: [`IsNew`](crate::words#isnew), [`nodes`](crate::words#nodes-of-slotmap_scene-node).
     pub fn with_key(alloc: Global) -> Result<Self, ReserveError>
     {
         Scene::with_capacity_and_key(alloc, 0)
@@ -262,6 +268,8 @@ impl<K: Key, T: Sized> Scene<K, T> {
     /// ensures room { IfOk result (λ scene. capacity ≤ scene.nodes.room) }
     /// ensures err { IfErr result (RefusesCapacity capacity) }
     /// ```
+    ///
+    /// Words: [`IsNew`](crate::words#isnew), [`nodes`](crate::words#nodes-of-slotmap_scene-node), [`RefusesCapacity`](crate::words#refusescapacity), [`room`](crate::words#room-of-slotmap_core-content).
     pub fn with_capacity_and_key(alloc: Global, capacity: usize) -> Result<Self, ReserveError>
     {
         let nodes = Nodes::with_capacity(alloc, capacity)?;
@@ -300,6 +308,8 @@ impl<K: Key, T: Sized> Scene<K, T> {
     /// ensures reuses { additional ≤ map.len self.old.nodes.next → IsOk result }
     /// ensures in_place { additional ≤ self.old.nodes.room → self.new ≡ self.old }
     /// ```
+    ///
+    /// Words: [`MakesRoom`](crate::words#makesroom), [`next`](crate::words#next), [`nodes`](crate::words#nodes-of-slotmap_scene-node), [`RefusesCapacity`](crate::words#refusescapacity), [`room`](crate::words#room-of-slotmap_core-content), [`used`](crate::words#used).
     pub fn reserve(&mut self, additional: usize) -> Result<(), ReserveError>
     {
         self.nodes.reserve(additional)
@@ -331,6 +341,8 @@ impl<K: Key, T: Sized> Scene<K, T> {
     /// ensures value { result ≡ map.len self.now.nodes.live }
     /// ensures scene { IsScene self.now.nodes.live }
     /// ```
+    ///
+    /// Words: [`IsScene`](crate::words#isscene), [`live`](crate::words#live), [`nodes`](crate::words#nodes-of-slotmap_scene-node).
     pub fn len(&self) -> usize
     {
         self.nodes.len()
@@ -359,6 +371,8 @@ impl<K: Key, T: Sized> Scene<K, T> {
     /// ensures exact { result ≡ used self.now.nodes + self.now.nodes.room }
     /// ensures valid { IsContent true self.now.nodes }
     /// ```
+    ///
+    /// Words: [`bound`](crate::words#bound), [`IsContent`](crate::words#iscontent), [`nodes`](crate::words#nodes-of-slotmap_scene-node), [`room`](crate::words#room-of-slotmap_core-content), [`used`](crate::words#used).
     pub fn capacity(&self) -> usize
     {
         self.nodes.capacity()
@@ -385,6 +399,8 @@ impl<K: Key, T: Sized> Scene<K, T> {
     /// ```text
     /// ensures { IsTrue result ↔ (map.len self.now.nodes.live ≡ 0) }
     /// ```
+    ///
+    /// Words: [`live`](crate::words#live), [`nodes`](crate::words#nodes-of-slotmap_scene-node).
     pub fn is_empty(&self) -> bool
     {
         self.len() == 0
@@ -413,6 +429,8 @@ impl<K: Key, T: Sized> Scene<K, T> {
     /// ```text
     /// ensures { result ≡ map.contains_key self.now.nodes.live (K.data_of node) }
     /// ```
+    ///
+    /// Words: [`live`](crate::words#live), [`nodes`](crate::words#nodes-of-slotmap_scene-node).
     pub fn contains_key(&self, node: K) -> bool
     {
         self.nodes.contains_key(inner(node))
@@ -440,6 +458,8 @@ impl<K: Key, T: Sized> Scene<K, T> {
     /// ```text
     /// ensures { option_copied result ≡ value_of self.now.nodes.live (K.data_of node) }
     /// ```
+    ///
+    /// Words: [`live`](crate::words#live), [`nodes`](crate::words#nodes-of-slotmap_scene-node), [`value_of`](crate::words#value_of-of-slotmap_scene-family).
     pub fn get(&self, node: K) -> Option<&T>
     {
         self.nodes.get(inner(node))
@@ -470,6 +490,8 @@ impl<K: Key, T: Sized> Scene<K, T> {
     /// ensures* writes_back { sem 𝓛 (lends_value_of K.row T.row self.entry (K.data_of node) result) }
     /// ensures value { option_copied_mut result ≡ value_of self.old.nodes.live (K.data_of node) }
     /// ```
+    ///
+    /// Words: [`lends_value_of`](crate::words#lends_value_of), [`live`](crate::words#live), [`nodes`](crate::words#nodes-of-slotmap_scene-node), [`value_of`](crate::words#value_of-of-slotmap_scene-family).
     pub fn get_mut(&mut self, node: K) -> Option<&mut T>
     {
         self.nodes.value_mut(inner(node))
@@ -504,6 +526,8 @@ impl<K: Key, T: Sized> Scene<K, T> {
     /// ensures value { result ≡ children_of self.now.nodes.live (K.data_of node) }
     /// ensures listed { (k : KeyOf) → times k result ≡ is_parent (parent_of self.now.nodes.live k) (K.data_of node) }
     /// ```
+    ///
+    /// Words: [`children_of`](crate::words#children_of), [`is_parent`](crate::words#is_parent), [`Key`](crate::words#key), [`live`](crate::words#live), [`nodes`](crate::words#nodes-of-slotmap_scene-node), [`parent_of`](crate::words#parent_of), [`times`](crate::words#times).
     pub fn children(&self, node: K) -> ChildKeys<'_, K, T>
     {
         self.nodes.children(inner(node))
@@ -533,6 +557,8 @@ impl<K: Key, T: Sized> Scene<K, T> {
     /// ensures value { option_map K.data_of result ≡ parent_of self.now.nodes.live (K.data_of node) }
     /// ensures live { IfSome result (λ parent. has_node self.now.nodes.live (K.data_of parent)) }
     /// ```
+    ///
+    /// Words: [`has_node`](crate::words#has_node), [`live`](crate::words#live), [`nodes`](crate::words#nodes-of-slotmap_scene-node), [`parent_of`](crate::words#parent_of).
     pub fn parent(&self, node: K) -> Option<K>
     {
         Some(outer(self.parent_key(inner(node))?))

@@ -43,6 +43,8 @@ impl<K: Key, T: Sized> Scene<K, T> {
     /// ensures in_place { 0 < self.old.nodes.room → memory self.new ≡ memory self.old }
     /// ensures unchanged { OnErr result (Keeps self.old.nodes self.new.nodes) }
     /// ```
+    ///
+    /// Words: [`capacity`](crate::words#capacity-of-slotmap_core-content), [`child`](crate::words#child), [`children_of`](crate::words#children_of), [`HasVacant`](crate::words#hasvacant), [`Inserts`](crate::words#inserts), [`IsSpent`](crate::words#isspent), [`Keeps`](crate::words#keeps), [`KeepsSpent`](crate::words#keepsspent), [`lacks_node`](crate::words#lacks_node), [`live`](crate::words#live), [`memory`](crate::words#memory-of-slotmap_scene-node), [`nodes`](crate::words#nodes-of-slotmap_scene-node), [`RefusesNode`](crate::words#refusesnode), [`room`](crate::words#room-of-slotmap_core-content).
     pub fn add_root(&mut self, value: T) -> Result<K, InsertError<T>>
     {
         Ok(outer(self.nodes.insert(value, None)?))
@@ -91,6 +93,8 @@ impl<K: Key, T: Sized> Scene<K, T> {
     /// ensures in_place { 0 < self.old.nodes.room → memory self.new ≡ memory self.old }
     /// ensures unchanged { OnErr result (Keeps self.old.nodes self.new.nodes) }
     /// ```
+    ///
+    /// Words: [`capacity`](crate::words#capacity-of-slotmap_core-content), [`child`](crate::words#child), [`children_of`](crate::words#children_of), [`has_node`](crate::words#has_node), [`HasVacant`](crate::words#hasvacant), [`Inserts`](crate::words#inserts), [`IsNewChild`](crate::words#isnewchild), [`IsSpent`](crate::words#isspent), [`Keeps`](crate::words#keeps), [`KeepsSpent`](crate::words#keepsspent), [`lacks_node`](crate::words#lacks_node), [`live`](crate::words#live), [`memory`](crate::words#memory-of-slotmap_scene-node), [`nodes`](crate::words#nodes-of-slotmap_scene-node), [`RefusesChild`](crate::words#refuseschild), [`room`](crate::words#room-of-slotmap_core-content), [`with_child`](crate::words#with_child).
     pub fn add_child(&mut self, parent: K, value: T) -> Result<K, AddError<T>>
     {
         let parent = inner(parent);
@@ -137,6 +141,8 @@ impl<K: Key, T: Sized> Scene<K, T> {
     /// ensures err { IfErr result (RefusesParent self.old.nodes.live (K.data_of node) (K.data_of parent)) }
     /// ensures unchanged { OnErr result (self.new ≡ self.old) }
     /// ```
+    ///
+    /// Words: [`as_last_child`](crate::words#as_last_child), [`has_node`](crate::words#has_node), [`IsMoved`](crate::words#ismoved), [`IsScene`](crate::words#isscene), [`IsWithin`](crate::words#iswithin), [`KeepsSpent`](crate::words#keepsspent), [`Key`](crate::words#key), [`live`](crate::words#live), [`memory`](crate::words#memory-of-slotmap_scene-node), [`nodes`](crate::words#nodes-of-slotmap_scene-node), [`RefusesParent`](crate::words#refusesparent), [`value_of`](crate::words#value_of-of-slotmap_scene-family), [`with_trees`](crate::words#with_trees).
     pub fn reparent(&mut self, node: K, parent: K) -> Result<(), ReparentError>
     {
         if !self.contains_key(node) {
@@ -184,6 +190,8 @@ impl<K: Key, T: Sized> Scene<K, T> {
     /// ensures capacity { memory self.new ≡ memory self.old }
     /// ensures stale { KeepsSpent self.old.nodes self.new.nodes }
     /// ```
+    ///
+    /// Words: [`as_root`](crate::words#as_root), [`has_node`](crate::words#has_node), [`IsMoved`](crate::words#ismoved), [`KeepsSpent`](crate::words#keepsspent), [`Key`](crate::words#key), [`live`](crate::words#live), [`memory`](crate::words#memory-of-slotmap_scene-node), [`nodes`](crate::words#nodes-of-slotmap_scene-node), [`value_of`](crate::words#value_of-of-slotmap_scene-family), [`with_trees`](crate::words#with_trees).
     pub fn make_root(&mut self, node: K) -> bool
     {
         let node = inner(node);
@@ -228,6 +236,8 @@ impl<K: Key, T: Sized> Scene<K, T> {
     /// ensures fewer { OnSome result (map.len self.new.nodes.live + length (all_below self.old.nodes.live (K.data_of node)) + 1 ≡ map.len self.old.nodes.live) }
     /// ensures unchanged { IfNone result (self.new ≡ self.old) }
     /// ```
+    ///
+    /// Words: [`all_below`](crate::words#all_below), [`forgets`](crate::words#forgets), [`has_node`](crate::words#has_node), [`IsSpent`](crate::words#isspent), [`IsWithin`](crate::words#iswithin), [`KeepsSpent`](crate::words#keepsspent), [`Key`](crate::words#key), [`lacks_node`](crate::words#lacks_node), [`Leaves`](crate::words#leaves), [`live`](crate::words#live), [`memory`](crate::words#memory-of-slotmap_scene-node), [`nodes`](crate::words#nodes-of-slotmap_scene-node), [`value_of`](crate::words#value_of-of-slotmap_scene-family).
     pub fn remove(&mut self, node: K) -> Option<T>
     {
         let node = inner(node);
@@ -266,6 +276,8 @@ impl<K: Key, T: Sized> Scene<K, T> {
     /// ensures for_good { (k : KeyOf) → has_node self.old.nodes.live k → IsSpent self.new.nodes k }
     /// ensures stale { KeepsSpent self.old.nodes self.new.nodes }
     /// ```
+    ///
+    /// Words: [`has_node`](crate::words#has_node), [`IsSpent`](crate::words#isspent), [`KeepsSpent`](crate::words#keepsspent), [`Key`](crate::words#key), [`Leaves`](crate::words#leaves), [`live`](crate::words#live), [`memory`](crate::words#memory-of-slotmap_scene-node), [`nodes`](crate::words#nodes-of-slotmap_scene-node).
     pub fn clear(&mut self)
     {
         self.nodes.clear();

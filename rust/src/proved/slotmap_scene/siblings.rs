@@ -35,6 +35,8 @@ impl<K: Key, T: Sized> Scene<K, T> {
     /// ensures live { IfSome result (λ child. has_node self.now.nodes.live (K.data_of child)) }
     /// ensures child { IfSome result (λ child. parent_of self.now.nodes.live (K.data_of child) ≡ Some (K.data_of node)) }
     /// ```
+    ///
+    /// Words: [`children_of`](crate::words#children_of), [`first_or`](crate::words#first_or-of-slotmap_links-lists), [`has_node`](crate::words#has_node), [`live`](crate::words#live), [`nodes`](crate::words#nodes-of-slotmap_scene-node), [`parent_of`](crate::words#parent_of).
     pub fn first_child(&self, node: K) -> Option<K>
     {
         Some(outer(self.nodes.first(inner(node))?))
@@ -65,6 +67,8 @@ impl<K: Key, T: Sized> Scene<K, T> {
     /// ensures live { IfSome result (λ child. has_node self.now.nodes.live (K.data_of child)) }
     /// ensures child { IfSome result (λ child. parent_of self.now.nodes.live (K.data_of child) ≡ Some (K.data_of node)) }
     /// ```
+    ///
+    /// Words: [`children_of`](crate::words#children_of), [`has_node`](crate::words#has_node), [`last_or`](crate::words#last_or-of-slotmap_bounded-keylists), [`live`](crate::words#live), [`nodes`](crate::words#nodes-of-slotmap_scene-node), [`parent_of`](crate::words#parent_of).
     pub fn last_child(&self, node: K) -> Option<K>
     {
         Some(outer(self.nodes.last(inner(node))?))
@@ -96,6 +100,8 @@ impl<K: Key, T: Sized> Scene<K, T> {
     /// ensures live { IfSome result (λ sibling. has_node self.now.nodes.live (K.data_of sibling)) }
     /// ensures same_parent { IfSome result (λ sibling. parent_of self.now.nodes.live (K.data_of sibling) ≡ parent_of self.now.nodes.live (K.data_of node)) }
     /// ```
+    ///
+    /// Words: [`behind`](crate::words#behind), [`has_node`](crate::words#has_node), [`live`](crate::words#live), [`nodes`](crate::words#nodes-of-slotmap_scene-node), [`parent_of`](crate::words#parent_of), [`siblings_of`](crate::words#siblings_of).
     pub fn next_sibling(&self, node: K) -> Option<K>
     {
         let node = inner(node);
@@ -129,6 +135,8 @@ impl<K: Key, T: Sized> Scene<K, T> {
     /// ensures live { IfSome result (λ sibling. has_node self.now.nodes.live (K.data_of sibling)) }
     /// ensures same_parent { IfSome result (λ sibling. parent_of self.now.nodes.live (K.data_of sibling) ≡ parent_of self.now.nodes.live (K.data_of node)) }
     /// ```
+    ///
+    /// Words: [`has_node`](crate::words#has_node), [`in_front`](crate::words#in_front), [`live`](crate::words#live), [`nodes`](crate::words#nodes-of-slotmap_scene-node), [`parent_of`](crate::words#parent_of), [`siblings_of`](crate::words#siblings_of).
     pub fn prev_sibling(&self, node: K) -> Option<K>
     {
         let node = inner(node);
@@ -211,6 +219,8 @@ impl<K: Key, T: Sized> Scene<K, T> {
     /// ensures err { IfErr result (RefusesBeside self.old.nodes.live (K.data_of node) (K.data_of sibling)) }
     /// ensures unchanged { OnErr result (self.new ≡ self.old) }
     /// ```
+    ///
+    /// Words: [`as_child`](crate::words#as_child), [`has_node`](crate::words#has_node), [`IsMoved`](crate::words#ismoved), [`IsWithin`](crate::words#iswithin), [`KeepsSpent`](crate::words#keepsspent), [`Key`](crate::words#key), [`live`](crate::words#live), [`memory`](crate::words#memory-of-slotmap_scene-node), [`nodes`](crate::words#nodes-of-slotmap_scene-node), [`parent_of`](crate::words#parent_of), [`placed`](crate::words#placed), [`RefusesBeside`](crate::words#refusesbeside-of-slotmap_scene-refusals), [`right_before`](crate::words#right_before), [`value_of`](crate::words#value_of-of-slotmap_scene-family), [`with_trees`](crate::words#with_trees).
     pub fn move_before(&mut self, node: K, sibling: K) -> Result<(), MoveError>
     {
         self.move_beside(inner(node), Side::Before, inner(sibling))
@@ -255,6 +265,8 @@ impl<K: Key, T: Sized> Scene<K, T> {
     /// ensures err { IfErr result (RefusesBeside self.old.nodes.live (K.data_of node) (K.data_of sibling)) }
     /// ensures unchanged { OnErr result (self.new ≡ self.old) }
     /// ```
+    ///
+    /// Words: [`as_child`](crate::words#as_child), [`has_node`](crate::words#has_node), [`IsMoved`](crate::words#ismoved), [`IsWithin`](crate::words#iswithin), [`KeepsSpent`](crate::words#keepsspent), [`Key`](crate::words#key), [`live`](crate::words#live), [`memory`](crate::words#memory-of-slotmap_scene-node), [`nodes`](crate::words#nodes-of-slotmap_scene-node), [`parent_of`](crate::words#parent_of), [`placed`](crate::words#placed), [`RefusesBeside`](crate::words#refusesbeside-of-slotmap_scene-refusals), [`right_behind`](crate::words#right_behind), [`value_of`](crate::words#value_of-of-slotmap_scene-family), [`with_trees`](crate::words#with_trees).
     pub fn move_after(&mut self, node: K, sibling: K) -> Result<(), MoveError>
     {
         self.move_beside(inner(node), Side::After, inner(sibling))
@@ -294,6 +306,8 @@ impl<K: Key, T: Sized> Scene<K, T> {
     /// ensures stale { KeepsSpent self.old.nodes self.new.nodes }
     /// ensures unchanged { result ≡ false → self.new ≡ self.old }
     /// ```
+    ///
+    /// Words: [`as_child`](crate::words#as_child), [`IsMoved`](crate::words#ismoved), [`KeepsSpent`](crate::words#keepsspent), [`Key`](crate::words#key), [`live`](crate::words#live), [`memory`](crate::words#memory-of-slotmap_scene-node), [`nodes`](crate::words#nodes-of-slotmap_scene-node), [`parent_of`](crate::words#parent_of), [`value_of`](crate::words#value_of-of-slotmap_scene-family), [`with_trees`](crate::words#with_trees).
     pub fn move_to_front(&mut self, node: K) -> bool
     {
         let node = inner(node);
@@ -337,6 +351,8 @@ impl<K: Key, T: Sized> Scene<K, T> {
     /// ensures stale { KeepsSpent self.old.nodes self.new.nodes }
     /// ensures unchanged { result ≡ false → self.new ≡ self.old }
     /// ```
+    ///
+    /// Words: [`as_last_child`](crate::words#as_last_child), [`IsMoved`](crate::words#ismoved), [`KeepsSpent`](crate::words#keepsspent), [`Key`](crate::words#key), [`live`](crate::words#live), [`memory`](crate::words#memory-of-slotmap_scene-node), [`nodes`](crate::words#nodes-of-slotmap_scene-node), [`parent_of`](crate::words#parent_of), [`value_of`](crate::words#value_of-of-slotmap_scene-family), [`with_trees`](crate::words#with_trees).
     pub fn move_to_back(&mut self, node: K) -> bool
     {
         let node = inner(node);

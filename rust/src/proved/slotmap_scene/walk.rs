@@ -108,6 +108,8 @@ impl<K: Key, T: Sized> Scene<K, T> {
     /// ensures each { (k : KeyOf) → has_node self.now.nodes.live k
     ///     → visits_of self.now.nodes.live k ≡ entering k ∷ of_each (visits_of self.now.nodes.live) (children_of self.now.nodes.live k) ++ leaving k ∷ [] }
     /// ```
+    ///
+    /// Words: [`children_of`](crate::words#children_of), [`entering`](crate::words#entering), [`has_node`](crate::words#has_node), [`Key`](crate::words#key), [`lacks_node`](crate::words#lacks_node), [`leaving`](crate::words#leaving), [`live`](crate::words#live), [`nodes`](crate::words#nodes-of-slotmap_scene-node), [`of_each`](crate::words#of_each), [`visits_of`](crate::words#visits_of).
     pub fn walk(&self, node: K) -> Walk<'_, K, T>
     {
         let _ = &self.alloc;

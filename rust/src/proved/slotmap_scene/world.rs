@@ -150,6 +150,8 @@ impl<K: Key, T: Sized> Scene<K, T> {
     /// ensures some { IfSome result (FoldsUp F.FnMut self.now.nodes.live (K.data_of node) f start) }
     /// ensures none { IfNone result (lacks_node self.now.nodes.live (K.data_of node)) }
     /// ```
+    ///
+    /// Words: [`CallableUp`](crate::words#callableup), [`FoldsUp`](crate::words#foldsup), [`lacks_node`](crate::words#lacks_node), [`live`](crate::words#live), [`nodes`](crate::words#nodes-of-slotmap_scene-node).
     pub fn fold_up<A: Sized, F: FnMut(A, &T) -> A>(&self, node: K, start: A, mut f: F) -> Option<A>
     where
         F: Sized,
@@ -197,6 +199,8 @@ impl<K: Key, T: Transform> Scene<K, T> {
     /// ensures joined { Joins T.under → IfSome result (IsWorld T.under self.now.nodes.live (K.data_of node)) }
     /// ensures none { IfNone result (lacks_node self.now.nodes.live (K.data_of node)) }
     /// ```
+    ///
+    /// Words: [`IsComposed`](crate::words#iscomposed), [`IsWorld`](crate::words#isworld), [`Joins`](crate::words#joins), [`lacks_node`](crate::words#lacks_node), [`live`](crate::words#live), [`nodes`](crate::words#nodes-of-slotmap_scene-node).
     pub fn world(&self, node: K) -> Option<T>
     {
         let local = *self.nodes.get(inner(node))?;
@@ -238,6 +242,8 @@ impl<K: Key, T: HasTransform> Scene<K, T> {
     /// ensures joined { Joins T.Transform.under → IfSome result (IsWorldOf T.Transform.under T.transform_of self.now.nodes.live (K.data_of node)) }
     /// ensures none { IfNone result (lacks_node self.now.nodes.live (K.data_of node)) }
     /// ```
+    ///
+    /// Words: [`IsComposed`](crate::words#iscomposed), [`IsWorldOf`](crate::words#isworldof), [`Joins`](crate::words#joins), [`lacks_node`](crate::words#lacks_node), [`live`](crate::words#live), [`nodes`](crate::words#nodes-of-slotmap_scene-node).
     pub fn world_transform(&self, node: K) -> Option<T::Transform>
     {
         let start = self.nodes.get(inner(node))?.transform();

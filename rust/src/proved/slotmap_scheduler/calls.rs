@@ -43,6 +43,8 @@ impl<K: Key, T: Sized> Scheduler<K, T> {
     /// ensures turns { self.new.turns ≡ self.old.turns }
     /// ensures stale { KeepsSpent self.old.handles self.new.handles }
     /// ```
+    ///
+    /// Words: [`handles`](crate::words#handles), [`KeepsSpent`](crate::words#keepsspent), [`MakesRoom`](crate::words#makesroom), [`next`](crate::words#next), [`RefusesCapacity`](crate::words#refusescapacity), [`turns`](crate::words#turns), [`used`](crate::words#used), [`waiting`](crate::words#waiting-of-slotmap_scheduler-schedule).
     pub fn reserve(&mut self, additional: usize) -> Result<(), ReserveError>
     {
         if let Err(error) = self.jobs.reserve(additional) {
@@ -111,6 +113,8 @@ impl<K: Key, T: Sized> Scheduler<K, T> {
     /// // What never comes again.
     /// ensures stale { KeepsSpent self.old.handles self.new.handles }
     /// ```
+    ///
+    /// Words: [`capacity`](crate::words#capacity-of-slotmap_core-content), [`handles`](crate::words#handles), [`HasVacant`](crate::words#hasvacant), [`in_turn`](crate::words#in_turn), [`Inserts`](crate::words#inserts), [`IsContent`](crate::words#iscontent), [`IsSpent`](crate::words#isspent), [`job_of`](crate::words#job_of), [`Keeps`](crate::words#keeps), [`KeepsSpent`](crate::words#keepsspent), [`Key`](crate::words#key), [`last_turn`](crate::words#last_turn), [`RefusesJob`](crate::words#refusesjob), [`room`](crate::words#room-of-slotmap_core-content), [`turns`](crate::words#turns), [`waiting`](crate::words#waiting-of-slotmap_scheduler-schedule).
     pub fn schedule(&mut self, time: u64, job: T) -> Result<K, ScheduleError<T>>
     {
         if self.count == u64::MAX {
@@ -162,6 +166,8 @@ impl<K: Key, T: Sized> Scheduler<K, T> {
     /// ensures for_good { OnSome result (IsSpent self.new.handles (K.data_of handle)) }
     /// ensures stale { KeepsSpent self.old.handles self.new.handles }
     /// ```
+    ///
+    /// Words: [`capacity`](crate::words#capacity-of-slotmap_core-content), [`handles`](crate::words#handles), [`IsSpent`](crate::words#isspent), [`job_of`](crate::words#job_of), [`KeepsSpent`](crate::words#keepsspent), [`Key`](crate::words#key), [`Leaves`](crate::words#leaves), [`Removes`](crate::words#removes), [`turns`](crate::words#turns), [`waiting`](crate::words#waiting-of-slotmap_scheduler-schedule), [`without`](crate::words#without-of-slotmap_scheduler-schedule).
     pub fn cancel(&mut self, handle: K) -> Option<T>
     {
         let removed = take_out(&mut self.jobs, &mut self.heap, inner(handle))?;
@@ -208,6 +214,8 @@ impl<K: Key, T: Sized> Scheduler<K, T> {
     /// ensures err { IfErr result (RefusesMove self.old (K.data_of handle)) }
     /// ensures unchanged { OnErr result (self.new ≡ self.old) }
     /// ```
+    ///
+    /// Words: [`handles`](crate::words#handles), [`in_turn`](crate::words#in_turn), [`job_of`](crate::words#job_of), [`Key`](crate::words#key), [`last_turn`](crate::words#last_turn), [`RefusesMove`](crate::words#refusesmove), [`turns`](crate::words#turns), [`waiting`](crate::words#waiting-of-slotmap_scheduler-schedule), [`without`](crate::words#without-of-slotmap_scheduler-schedule).
     pub fn reschedule(&mut self, handle: K, time: u64) -> Result<(), RescheduleError>
     {
         let key = inner(handle);
@@ -252,6 +260,8 @@ impl<K: Key, T: Sized> Scheduler<K, T> {
     /// ensures sorted { IsByTime self.now.waiting }
     /// ensures once { IsOnce self.now.waiting }
     /// ```
+    ///
+    /// Words: [`IsByTime`](crate::words#isbytime), [`IsOnce`](crate::words#isonce-of-slotmap_scheduler-schedule), [`waiting`](crate::words#waiting-of-slotmap_scheduler-schedule), [`without`](crate::words#without-of-slotmap_scheduler-schedule).
     pub fn peek(&self) -> Option<(u64, K)>
     {
         let next = self.heap.first()?;
@@ -302,6 +312,8 @@ impl<K: Key, T: Sized> Scheduler<K, T> {
     /// ensures for_good { IfSome result (λ due. IsSpent self.new.handles (K.data_of due.1)) }
     /// ensures stale { KeepsSpent self.old.handles self.new.handles }
     /// ```
+    ///
+    /// Words: [`capacity`](crate::words#capacity-of-slotmap_core-content), [`handles`](crate::words#handles), [`IsByTime`](crate::words#isbytime), [`IsOnce`](crate::words#isonce-of-slotmap_scheduler-schedule), [`IsSpent`](crate::words#isspent), [`KeepsSpent`](crate::words#keepsspent), [`Leaves`](crate::words#leaves), [`Removes`](crate::words#removes), [`turns`](crate::words#turns), [`waiting`](crate::words#waiting-of-slotmap_scheduler-schedule).
     pub fn pop_next(&mut self) -> Option<(u64, K, T)>
     {
         let (time, handle) = self.peek()?;
@@ -352,6 +364,8 @@ impl<K: Key, T: Sized> Scheduler<K, T> {
     /// ensures for_good { IfSome result (λ due. IsSpent self.new.handles (K.data_of due.1)) }
     /// ensures stale { KeepsSpent self.old.handles self.new.handles }
     /// ```
+    ///
+    /// Words: [`capacity`](crate::words#capacity-of-slotmap_core-content), [`handles`](crate::words#handles), [`IsByTime`](crate::words#isbytime), [`IsOnce`](crate::words#isonce-of-slotmap_scheduler-schedule), [`IsSpent`](crate::words#isspent), [`KeepsSpent`](crate::words#keepsspent), [`Leaves`](crate::words#leaves), [`Removes`](crate::words#removes), [`turns`](crate::words#turns), [`waiting`](crate::words#waiting-of-slotmap_scheduler-schedule).
     pub fn pop_due_with_time(&mut self, now: u64) -> Option<(u64, K, T)>
     {
         let (time, _) = self.peek()?;
@@ -406,6 +420,8 @@ impl<K: Key, T: Sized> Scheduler<K, T> {
     /// ensures for_good { IfSome result (λ due. IsSpent self.new.handles (K.data_of due.0)) }
     /// ensures stale { KeepsSpent self.old.handles self.new.handles }
     /// ```
+    ///
+    /// Words: [`capacity`](crate::words#capacity-of-slotmap_core-content), [`handles`](crate::words#handles), [`IsByTime`](crate::words#isbytime), [`IsOnce`](crate::words#isonce-of-slotmap_scheduler-schedule), [`IsSpent`](crate::words#isspent), [`KeepsSpent`](crate::words#keepsspent), [`Leaves`](crate::words#leaves), [`Removes`](crate::words#removes), [`turns`](crate::words#turns), [`waiting`](crate::words#waiting-of-slotmap_scheduler-schedule).
     pub fn pop_due(&mut self, now: u64) -> Option<(K, T)>
     {
         let (_, handle, job) = self.pop_due_with_time(now)?;
@@ -474,6 +490,8 @@ impl<K: Key, T: Sized> Scheduler<K, T> {
     /// ensures for_good { (k : KeyOf) → is_some (job_of k self.old.waiting) ≡ true → job_of k self.new.waiting ≡ None → IsSpent self.new.handles k }
     /// ensures stale { KeepsSpent self.old.handles self.new.handles }
     /// ```
+    ///
+    /// Words: [`capacity`](crate::words#capacity-of-slotmap_core-content), [`due_at`](crate::words#due_at), [`handles`](crate::words#handles), [`IsByTime`](crate::words#isbytime), [`IsOnce`](crate::words#isonce-of-slotmap_scheduler-schedule), [`IsSpent`](crate::words#isspent), [`job_of`](crate::words#job_of), [`KeepsSpent`](crate::words#keepsspent), [`Key`](crate::words#key), [`Leaves`](crate::words#leaves), [`TakesDue`](crate::words#takesdue), [`turns`](crate::words#turns), [`waiting`](crate::words#waiting-of-slotmap_scheduler-schedule).
     pub fn pop_all_due(&mut self, now: u64, due: &mut Vec<(K, T)>) -> Result<(), AllocError>
     {
         let count = self.due_count(now);
@@ -513,6 +531,8 @@ impl<K: Key, T: Sized> Scheduler<K, T> {
     /// ensures turns { self.new.turns ≡ self.old.turns }
     /// ensures stale { KeepsSpent self.old.handles self.new.handles }
     /// ```
+    ///
+    /// Words: [`capacity`](crate::words#capacity-of-slotmap_core-content), [`handles`](crate::words#handles), [`IsSpent`](crate::words#isspent), [`job_of`](crate::words#job_of), [`KeepsSpent`](crate::words#keepsspent), [`Key`](crate::words#key), [`Leaves`](crate::words#leaves), [`live`](crate::words#live), [`turns`](crate::words#turns), [`waiting`](crate::words#waiting-of-slotmap_scheduler-schedule).
     pub fn clear(&mut self)
     {
         self.jobs.clear();

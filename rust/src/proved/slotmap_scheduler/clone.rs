@@ -48,6 +48,8 @@ impl<K: Key, T: Clone> Scheduler<K, T> {
     /// ensures handles { IfOk result (λ copy. IsCopy self.now.handles copy.handles) }
     /// ensures turns { IfOk result (λ copy. copy.turns ≡ self.now.turns) }
     /// ```
+    ///
+    /// Words: [`AreClones`](crate::words#areclones), [`ClonesEqual`](crate::words#clonesequal), [`handles`](crate::words#handles), [`IsCopy`](crate::words#iscopy), [`IsDueClone`](crate::words#isdueclone), [`turns`](crate::words#turns), [`waiting`](crate::words#waiting-of-slotmap_scheduler-schedule).
     pub fn clone(&self) -> Result<Self, AllocError>
     {
         let jobs = self.jobs.clone()?;

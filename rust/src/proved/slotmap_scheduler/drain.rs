@@ -83,6 +83,8 @@ impl<K: Key, T: Sized> Scheduler<K, T> {
     /// ensures stays { KeepsLent K.data_of result }
     /// ensures in_order { YieldsInOrder K.data_of result }
     /// ```
+    ///
+    /// Words: [`drain_loan`](crate::words#drain_loan-of-slotmap_scheduler-drain), [`IsByTime`](crate::words#isbytime), [`IsOnce`](crate::words#isonce-of-slotmap_scheduler-schedule), [`KeepsLent`](crate::words#keepslent-of-slotmap_scheduler-drain), [`waiting`](crate::words#waiting-of-slotmap_scheduler-schedule), [`YieldsInOrder`](crate::words#yieldsinorder-of-slotmap_scheduler-drain).
     pub fn drain(&mut self) -> Drain<'_, K, T>
     {
         // Reads the scheduler, which says that its jobs are in order and each handle is there once.

@@ -142,6 +142,8 @@ impl<K: Key, T: Sized> Scheduler<K, T> {
     /// ensures in_order { list_map (λ e. e.0) result ≡ map.keys self.now.handles.live }
     /// ensures once { IsOnce result }
     /// ```
+    ///
+    /// Words: [`handles`](crate::words#handles), [`IsOnce`](crate::words#isonce-of-slotmap_scheduler-schedule), [`ListsJobs`](crate::words#listsjobs), [`live`](crate::words#live), [`waiting`](crate::words#waiting-of-slotmap_scheduler-schedule).
     pub fn iter(&self) -> Iter<'_, K, T>
     {
         Iter {
@@ -172,6 +174,8 @@ impl<K: Key, T: Sized> Scheduler<K, T> {
     /// ensures jobs { (jobs : Waiting T) × ListsJobs self.now.waiting jobs × (result ≡ list_map (λ e. e.0) jobs) }
     /// ensures in_order { result ≡ map.keys self.now.handles.live }
     /// ```
+    ///
+    /// Words: [`handles`](crate::words#handles), [`ListsJobs`](crate::words#listsjobs), [`live`](crate::words#live), [`Waiting`](crate::words#waiting-of-slotmap_scheduler-schedule), [`waiting`](crate::words#waiting-of-slotmap_scheduler-schedule).
     pub fn keys(&self) -> Keys<'_, K, T>
     {
         Keys { jobs: self.iter() }
@@ -199,6 +203,8 @@ impl<K: Key, T: Sized> Scheduler<K, T> {
     /// ensures jobs { (jobs : Waiting T) × ListsJobs self.now.waiting jobs × (list_map (λ e. e.0) jobs ≡ map.keys self.now.handles.live)
     ///     × (result ≡ list_map (λ e. e.1.1) jobs) }
     /// ```
+    ///
+    /// Words: [`handles`](crate::words#handles), [`ListsJobs`](crate::words#listsjobs), [`live`](crate::words#live), [`Waiting`](crate::words#waiting-of-slotmap_scheduler-schedule), [`waiting`](crate::words#waiting-of-slotmap_scheduler-schedule).
     pub fn values(&self) -> Values<'_, K, T>
     {
         Values { jobs: self.iter() }

@@ -126,6 +126,8 @@ impl<T: Sized> Scheduler<DefaultKey, T> {
     /// ensures turns { IfOk result (λ made. made.turns ≡ 0) }
     /// ensures err { IfErr result (λ error. error ≡ ReserveError.Memory) }
     /// ```
+    ///
+    /// Words: [`handles`](crate::words#handles), [`IsNew`](crate::words#isnew), [`turns`](crate::words#turns), [`waiting`](crate::words#waiting-of-slotmap_scheduler-schedule).
     pub fn new(alloc: Global) -> Result<Self, ReserveError>
     {
         Scheduler::with_key(alloc)
@@ -157,6 +159,8 @@ impl<T: Sized> Scheduler<DefaultKey, T> {
     /// ensures turns { IfOk result (λ made. made.turns ≡ 0) }
     /// ensures err { IfErr result (RefusesCapacity capacity) }
     /// ```
+    ///
+    /// Words: [`handles`](crate::words#handles), [`IsNew`](crate::words#isnew), [`RefusesCapacity`](crate::words#refusescapacity), [`room`](crate::words#room-of-slotmap_core-content), [`turns`](crate::words#turns), [`waiting`](crate::words#waiting-of-slotmap_scheduler-schedule).
     pub fn with_capacity(alloc: Global, capacity: usize) -> Result<Self, ReserveError>
     {
         Scheduler::with_capacity_and_key(alloc, capacity)
@@ -187,6 +191,8 @@ impl<K: Key, T: Sized> Scheduler<K, T> {
     /// ensures turns { IfOk result (λ made. made.turns ≡ 0) }
     /// ensures err { IfErr result (λ error. error ≡ ReserveError.Memory) }
     /// ```
+    ///
+    /// Words: [`handles`](crate::words#handles), [`IsNew`](crate::words#isnew), [`turns`](crate::words#turns), [`waiting`](crate::words#waiting-of-slotmap_scheduler-schedule).
     pub fn with_key(alloc: Global) -> Result<Self, ReserveError>
     {
         Scheduler::with_capacity_and_key(alloc, 0)
@@ -217,6 +223,8 @@ impl<K: Key, T: Sized> Scheduler<K, T> {
     /// ensures turns { IfOk result (λ made. made.turns ≡ 0) }
     /// ensures err { IfErr result (RefusesCapacity capacity) }
     /// ```
+    ///
+    /// Words: [`handles`](crate::words#handles), [`IsNew`](crate::words#isnew), [`RefusesCapacity`](crate::words#refusescapacity), [`room`](crate::words#room-of-slotmap_core-content), [`turns`](crate::words#turns), [`waiting`](crate::words#waiting-of-slotmap_scheduler-schedule).
     pub fn with_capacity_and_key(alloc: Global, capacity: usize) -> Result<Self, ReserveError>
     {
         let jobs = SlotMap::with_capacity(alloc, capacity)?;
@@ -254,6 +262,8 @@ impl<K: Key, T: Sized> Scheduler<K, T> {
     /// ensures sorted { IsByTime self.now.waiting }
     /// ensures once { IsOnce self.now.waiting }
     /// ```
+    ///
+    /// Words: [`handles`](crate::words#handles), [`IsByTime`](crate::words#isbytime), [`IsOnce`](crate::words#isonce-of-slotmap_scheduler-schedule), [`job_of`](crate::words#job_of), [`Key`](crate::words#key), [`live`](crate::words#live), [`waiting`](crate::words#waiting-of-slotmap_scheduler-schedule).
     pub fn len(&self) -> usize
     {
         self.jobs.len()
@@ -279,6 +289,8 @@ impl<K: Key, T: Sized> Scheduler<K, T> {
     /// ```text
     /// ensures { IsTrue result ↔ (self.now.waiting ≡ []) }
     /// ```
+    ///
+    /// Words: [`waiting`](crate::words#waiting-of-slotmap_scheduler-schedule).
     pub fn is_empty(&self) -> bool
     {
         self.len() == 0
@@ -308,6 +320,8 @@ impl<K: Key, T: Sized> Scheduler<K, T> {
     /// ensures fits { map.len self.now.handles.live + self.now.handles.room ≤ result }
     /// ensures valid { IsContent true self.now.handles }
     /// ```
+    ///
+    /// Words: [`capacity`](crate::words#capacity-of-slotmap_core-content), [`handles`](crate::words#handles), [`IsContent`](crate::words#iscontent), [`live`](crate::words#live), [`room`](crate::words#room-of-slotmap_core-content).
     pub fn capacity(&self) -> usize
     {
         self.jobs.capacity().min(self.heap.capacity())
@@ -335,6 +349,8 @@ impl<K: Key, T: Sized> Scheduler<K, T> {
     /// ensures value { result ≡ is_some (job_of (K.data_of handle) self.now.waiting) }
     /// ensures live { result ≡ map.contains_key self.now.handles.live (K.data_of handle) }
     /// ```
+    ///
+    /// Words: [`handles`](crate::words#handles), [`job_of`](crate::words#job_of), [`live`](crate::words#live), [`waiting`](crate::words#waiting-of-slotmap_scheduler-schedule).
     pub fn contains(&self, handle: K) -> bool
     {
         self.jobs.contains_key(inner(handle))
@@ -361,6 +377,8 @@ impl<K: Key, T: Sized> Scheduler<K, T> {
     /// ```text
     /// ensures { option_copied result ≡ option_map (λ due. due.1) (job_of (K.data_of handle) self.now.waiting) }
     /// ```
+    ///
+    /// Words: [`job_of`](crate::words#job_of), [`waiting`](crate::words#waiting-of-slotmap_scheduler-schedule).
     pub fn get(&self, handle: K) -> Option<&T>
     {
         Some(&self.jobs.get(inner(handle))?.job)
@@ -387,6 +405,8 @@ impl<K: Key, T: Sized> Scheduler<K, T> {
     /// ```text
     /// ensures { result ≡ option_map (λ due. due.0) (job_of (K.data_of handle) self.now.waiting) }
     /// ```
+    ///
+    /// Words: [`job_of`](crate::words#job_of), [`waiting`](crate::words#waiting-of-slotmap_scheduler-schedule).
     pub fn due(&self, handle: K) -> Option<u64>
     {
         Some(self.jobs.get(inner(handle))?.turn.0)
@@ -416,6 +436,8 @@ impl<K: Key, T: Sized> Scheduler<K, T> {
     /// ensures* writes_back { sem 𝓛 (lends_job K.row T.row self.entry (K.data_of handle) result) }
     /// ensures value { option_copied_mut result ≡ option_map (λ due. due.1) (job_of (K.data_of handle) self.old.waiting) }
     /// ```
+    ///
+    /// Words: [`job_of`](crate::words#job_of), [`lends_job`](crate::words#lends_job), [`waiting`](crate::words#waiting-of-slotmap_scheduler-schedule).
     pub fn get_mut(&mut self, handle: K) -> Option<&mut T>
     {
         match self.jobs.get_mut(inner(handle)) {

@@ -74,6 +74,8 @@ impl<K: Key, T: Sized> Scheduler<K, T> {
     /// ensures for_good { (k : KeyOf) → is_some (job_of k self.old.waiting) ≡ true → job_of k self.new.waiting ≡ None → IsSpent self.new.handles k }
     /// ensures stale { KeepsSpent self.old.handles self.new.handles }
     /// ```
+    ///
+    /// Words: [`CallableOnJobs`](crate::words#callableonjobs), [`capacity`](crate::words#capacity-of-slotmap_core-content), [`handles`](crate::words#handles), [`IsOnce`](crate::words#isonce-of-slotmap_scheduler-schedule), [`IsSpent`](crate::words#isspent), [`job_of`](crate::words#job_of), [`KeepsSpent`](crate::words#keepsspent), [`Key`](crate::words#key), [`Leaves`](crate::words#leaves), [`RetainsJobs`](crate::words#retainsjobs), [`turns`](crate::words#turns), [`waiting`](crate::words#waiting-of-slotmap_scheduler-schedule).
     pub fn retain<F: FnMut(K, u64, &mut T) -> bool>(&mut self, mut f: F)
     where
         F: Sized,

@@ -35,6 +35,8 @@ impl<K: Key, V: Sized> SecondaryMap<K, V> {
     /// ensures value { result ≡ contains_key self.now.pairs (K.data_of key) }
     /// ensures valid { IsSideContent self.now }
     /// ```
+    ///
+    /// Words: [`contains_key`](crate::words#contains_key), [`IsSideContent`](crate::words#issidecontent), [`pairs`](crate::words#pairs-of-slotmap_secondary-content).
     #[inline]
     pub fn contains_key(&self, key: K) -> bool
     {
@@ -71,6 +73,8 @@ impl<K: Key, V: Sized> SecondaryMap<K, V> {
     /// ensures value { option_copied result ≡ get self.now.pairs (K.data_of key) }
     /// ensures valid { IsSideContent self.now }
     /// ```
+    ///
+    /// Words: [`get`](crate::words#get), [`IsSideContent`](crate::words#issidecontent), [`pairs`](crate::words#pairs-of-slotmap_secondary-content).
     #[inline]
     pub fn get(&self, key: K) -> Option<&V>
     {
@@ -106,6 +110,8 @@ impl<K: Key, V: Sized> SecondaryMap<K, V> {
     /// ensures value { get self.now.pairs (K.data_of key) ≡ Some result.now }
     /// ensures valid { IsSideContent self.now }
     /// ```
+    ///
+    /// Words: [`contains_key`](crate::words#contains_key), [`get`](crate::words#get), [`IsSideContent`](crate::words#issidecontent), [`pairs`](crate::words#pairs-of-slotmap_secondary-content).
     #[inline]
     pub fn get_unchecked(&self, key: K) -> &V
     {
@@ -143,6 +149,8 @@ impl<K: Key, V: Sized> SecondaryMap<K, V> {
     /// ensures value { option_copied_mut result ≡ get self.old.pairs (K.data_of key) }
     /// ensures valid { IsSideContent self.old }
     /// ```
+    ///
+    /// Words: [`get`](crate::words#get), [`IsSideContent`](crate::words#issidecontent), [`lends_get`](crate::words#lends_get-of-slotmap_secondary-lends), [`pairs`](crate::words#pairs-of-slotmap_secondary-content).
     #[inline]
     pub fn get_mut(&mut self, key: K) -> Option<&mut V>
     {
@@ -182,6 +190,8 @@ impl<K: Key, V: Sized> SecondaryMap<K, V> {
     /// ensures value { get self.old.pairs (K.data_of key) ≡ Some result.now }
     /// ensures valid { IsSideContent self.old }
     /// ```
+    ///
+    /// Words: [`contains_key`](crate::words#contains_key), [`get`](crate::words#get), [`IsSideContent`](crate::words#issidecontent), [`lends_value`](crate::words#lends_value-of-slotmap_secondary-lends), [`pairs`](crate::words#pairs-of-slotmap_secondary-content).
     #[inline]
     pub fn get_unchecked_mut(&mut self, key: K) -> &mut V
     {
@@ -230,6 +240,8 @@ impl<K: Key, V: Sized> SecondaryMap<K, V> {
     ///
     /// ensures valid { IsSideContent self.new }
     /// ```
+    ///
+    /// Words: [`AreValuesOf`](crate::words#arevaluesof-of-slotmap_core-several), [`bind`](crate::words#bind), [`CanReplace`](crate::words#canreplace-of-slotmap_core-several), [`get`](crate::words#get), [`IsSideContent`](crate::words#issidecontent), [`pairs`](crate::words#pairs-of-slotmap_secondary-content), [`with_values`](crate::words#with_values-of-slotmap_core-several).
     #[inline]
     pub fn replace_disjoint<const N: usize>(
         &mut self,
@@ -328,6 +340,8 @@ impl<K: Key, V: Sized> IndexMut<K> for SecondaryMap<K, V> {
     /// ensures value { get self.old.pairs (K.data_of key) ≡ Some result.now }
     /// ensures valid { IsSideContent self.old }
     /// ```
+    ///
+    /// Words: [`contains_key`](crate::words#contains_key), [`get`](crate::words#get), [`IsSideContent`](crate::words#issidecontent), [`lends_value`](crate::words#lends_value-of-slotmap_secondary-lends), [`pairs`](crate::words#pairs-of-slotmap_secondary-content).
     #[inline]
     fn index_mut(&mut self, key: K) -> &mut V
     {

@@ -34,6 +34,8 @@ impl<K: Key, V: Sized> SecondaryMap<K, V> {
     /// ensures empty { self.new ≡ record self.old { pairs = map.empty } }
     /// ensures valid { IsSideContent self.new }
     /// ```
+    ///
+    /// Words: [`IsSideContent`](crate::words#issidecontent).
     #[inline]
     pub fn clear(&mut self)
     {

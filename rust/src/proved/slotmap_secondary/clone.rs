@@ -47,6 +47,8 @@ impl<K: Key, V: Clone> SecondaryMap<K, V> {
     ///
     /// ensures valid { IfOk result IsSideContent }
     /// ```
+    ///
+    /// Words: [`capacity`](crate::words#capacity-of-slotmap_secondary-content), [`ClonesEqual`](crate::words#clonesequal), [`HasClones`](crate::words#hasclones), [`IsSideContent`](crate::words#issidecontent), [`pairs`](crate::words#pairs-of-slotmap_secondary-content), [`places`](crate::words#places-of-slotmap_secondary-content).
     #[inline]
     pub fn clone(&self) -> Result<Self, AllocError>
     {
@@ -92,6 +94,8 @@ impl<K: Key, V: Clone> SecondaryMap<K, V> {
     /// ensures unchanged { OnErr result (self.new ≡ self.old) }
     /// ensures valid { OnOk result (IsSideContent self.new) }
     /// ```
+    ///
+    /// Words: [`capacity`](crate::words#capacity-of-slotmap_secondary-content), [`ClonesEqual`](crate::words#clonesequal), [`HasClones`](crate::words#hasclones), [`IsSideContent`](crate::words#issidecontent), [`pairs`](crate::words#pairs-of-slotmap_secondary-content), [`places`](crate::words#places-of-slotmap_secondary-content).
     #[inline]
     pub fn clone_from(&mut self, source: &Self) -> Result<(), AllocError>
     where

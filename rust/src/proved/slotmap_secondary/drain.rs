@@ -110,6 +110,8 @@ impl<K: Key, V: Sized> SecondaryMap<K, V> {
     ///
     /// ensures valid { IsSideContent self.old }
     /// ```
+    ///
+    /// Words: [`EmptiesSide`](crate::words#emptiesside), [`InOrderAlong`](crate::words#inorderalong), [`IsSideContent`](crate::words#issidecontent), [`KeepsAlong`](crate::words#keepsalong), [`KeepsLoan`](crate::words#keepsloan), [`keyed`](crate::words#keyed), [`ListsAlong`](crate::words#listsalong), [`pairs`](crate::words#pairs-of-slotmap_secondary-content), [`side_drain_loan`](crate::words#side_drain_loan), [`SideDrainCanStep`](crate::words#sidedraincanstep), [`SideDrainSteps`](crate::words#sidedrainsteps).
     #[inline]
     pub fn drain(&mut self) -> Drain<'_, K, V>
     {

@@ -77,6 +77,8 @@ impl<K: Key, V: Sized> SecondaryMap<K, V> {
     ///
     /// ensures valid { IsSideContent self.old }
     /// ```
+    ///
+    /// Words: [`capacity`](crate::words#capacity-of-slotmap_secondary-content), [`Enters`](crate::words#enters-of-slotmap_secondary-entry), [`entry`](crate::words#entry-of-slotmap_core-secondary), [`IfEntry`](crate::words#ifentry-of-slotmap_secondary-entry), [`index`](crate::words#index), [`IsEntryOf`](crate::words#isentryof-of-slotmap_secondary-entry), [`IsSideContent`](crate::words#issidecontent), [`pairs`](crate::words#pairs-of-slotmap_secondary-content), [`vacant`](crate::words#vacant).
     #[inline]
     pub fn entry(&mut self, key: K) -> Result<Option<Entry<'_, K, V>>, OutOfMemory>
     {
@@ -121,6 +123,8 @@ impl<K: Key, V: Sized> SecondaryMap<K, V> {
     ///
     /// ensures valid { IsSideContent self.old }
     /// ```
+    ///
+    /// Words: [`capacity`](crate::words#capacity-of-slotmap_secondary-content), [`Enters`](crate::words#enters-of-slotmap_secondary-entry), [`index`](crate::words#index), [`IsEntryOf`](crate::words#isentryof-of-slotmap_secondary-entry), [`IsSideContent`](crate::words#issidecontent), [`pairs`](crate::words#pairs-of-slotmap_secondary-content), [`RefusesEntry`](crate::words#refusesentry), [`rests_if_err`](crate::words#rests_if_err-of-slotmap_secondary-entry).
     #[inline]
     pub fn try_entry(&mut self, key: K) -> Result<Entry<'_, K, V>, NoEntry>
     {
@@ -161,6 +165,8 @@ impl<'a, K: Key, V: Sized> Entry<'a, K, V> {
     /// ```text
     /// ensures { result ≡ side_entry_key self.now }
     /// ```
+    ///
+    /// Words: [`side_entry_key`](crate::words#side_entry_key).
     #[inline]
     pub fn key(&self) -> K
     {
@@ -204,6 +210,8 @@ impl<'a, K: Key, V: Sized> Entry<'a, K, V> {
     /// ensures same_removal { entry_without K.data_of result ≡ entry_without K.data_of self.entry }
     /// ensures value { ModifiesValue F.FnOnce f (side_entry_value K.data_of self.entry) (side_entry_value K.data_of result) }
     /// ```
+    ///
+    /// Words: [`entry_lender`](crate::words#entry_lender-of-slotmap_secondary-entry), [`entry_without`](crate::words#entry_without-of-slotmap_secondary-entry), [`IsSideInPlace`](crate::words#issideinplace), [`side_entry_key`](crate::words#side_entry_key), [`side_entry_value`](crate::words#side_entry_value), [`side_entry_with`](crate::words#side_entry_with).
     #[inline]
     pub fn and_modify<F: FnOnce(&mut V)>(self, f: F) -> Entry<'a, K, V>
     where
@@ -248,6 +256,8 @@ impl<'a, K: Key, V: Sized> Entry<'a, K, V> {
     /// ensures* writes_back { sem 𝓛 (entry_lends K.row V.row K.data_of self.entry result) }
     /// ensures value { result.now ≡ unwrap_or (side_entry_value K.data_of self.entry) value }
     /// ```
+    ///
+    /// Words: [`entry_lends`](crate::words#entry_lends-of-slotmap_secondary-entry), [`IsSideInPlace`](crate::words#issideinplace), [`side_entry_value`](crate::words#side_entry_value).
     #[inline]
     pub fn or_insert(self, value: V) -> &'a mut V
     {
@@ -286,6 +296,8 @@ impl<'a, K: Key, V: Sized> Entry<'a, K, V> {
     /// ensures* writes_back { sem 𝓛 (entry_lends K.row V.row K.data_of self.entry result) }
     /// ensures value { UnwrapsOrElse (side_entry_value K.data_of self.entry) (F.post f) result.now }
     /// ```
+    ///
+    /// Words: [`entry_lends`](crate::words#entry_lends-of-slotmap_secondary-entry), [`IsSideInPlace`](crate::words#issideinplace), [`side_entry_value`](crate::words#side_entry_value).
     #[inline]
     pub fn or_insert_with<F: FnOnce() -> V>(self, f: F) -> &'a mut V
     where
@@ -324,6 +336,8 @@ impl<'a, K: Key, V: Sized> Entry<'a, K, V> {
     /// ensures* writes_back { sem 𝓛 (entry_lends K.row V.row K.data_of self.entry result) }
     /// ensures value { UnwrapsOrElse (side_entry_value K.data_of self.entry) V.is_default result.now }
     /// ```
+    ///
+    /// Words: [`entry_lends`](crate::words#entry_lends-of-slotmap_secondary-entry), [`IsSideInPlace`](crate::words#issideinplace), [`side_entry_value`](crate::words#side_entry_value).
     #[inline]
     pub fn or_default(self) -> &'a mut V
     where
@@ -361,6 +375,8 @@ impl<'a, K: Key, V: Sized> VacantEntry<'a, K, V> {
     /// ```text
     /// ensures { result ≡ side_entry_key (Vacant self.now) }
     /// ```
+    ///
+    /// Words: [`side_entry_key`](crate::words#side_entry_key).
     #[inline]
     pub fn key(&self) -> K
     {
@@ -396,6 +412,8 @@ impl<'a, K: Key, V: Sized> VacantEntry<'a, K, V> {
     /// ensures* writes_back { sem 𝓛 (entry_lends K.row V.row K.data_of (Vacant self.entry) result) }
     /// ensures value { result.now ≡ value }
     /// ```
+    ///
+    /// Words: [`entry_lends`](crate::words#entry_lends-of-slotmap_secondary-entry), [`IsSideInPlace`](crate::words#issideinplace).
     #[inline]
     pub fn insert(self, value: V) -> &'a mut V
     {
@@ -430,6 +448,8 @@ impl<'a, K: Key, V: Sized> OccupiedEntry<'a, K, V> {
     /// ```text
     /// ensures { result ≡ side_entry_key (Occupied self.now) }
     /// ```
+    ///
+    /// Words: [`side_entry_key`](crate::words#side_entry_key).
     #[inline]
     pub fn key(&self) -> K
     {
@@ -461,6 +481,8 @@ impl<'a, K: Key, V: Sized> OccupiedEntry<'a, K, V> {
     /// requires { IsSideInPlace K.data_of (Occupied self.now) }
     /// ensures { side_entry_value K.data_of (Occupied self.now) ≡ Some result.now }
     /// ```
+    ///
+    /// Words: [`IsSideInPlace`](crate::words#issideinplace), [`side_entry_value`](crate::words#side_entry_value).
     #[inline]
     pub fn get(&self) -> &V
     {
@@ -495,6 +517,8 @@ impl<'a, K: Key, V: Sized> OccupiedEntry<'a, K, V> {
     /// ensures value { side_entry_value K.data_of (Occupied self.old) ≡ Some result.now }
     /// ensures written { (w : V) → IsWritten K.data_of (Occupied self.old) w (Occupied (occupied_with K.data_of self.old w)) }
     /// ```
+    ///
+    /// Words: [`IsSideInPlace`](crate::words#issideinplace), [`IsWritten`](crate::words#iswritten-of-slotmap_secondary-entry), [`occupied_lends`](crate::words#occupied_lends-of-slotmap_secondary-entry), [`occupied_with`](crate::words#occupied_with-of-slotmap_secondary-entry), [`side_entry_value`](crate::words#side_entry_value).
     #[inline]
     pub fn get_mut(&mut self) -> &mut V
     {
@@ -531,6 +555,8 @@ impl<'a, K: Key, V: Sized> OccupiedEntry<'a, K, V> {
     /// ensures* writes_back { sem 𝓛 (entry_lends K.row V.row K.data_of (Occupied self.entry) result) }
     /// ensures value { side_entry_value K.data_of (Occupied self.entry) ≡ Some result.now }
     /// ```
+    ///
+    /// Words: [`entry_lends`](crate::words#entry_lends-of-slotmap_secondary-entry), [`IsSideInPlace`](crate::words#issideinplace), [`side_entry_value`](crate::words#side_entry_value).
     #[inline]
     pub fn into_mut(self) -> &'a mut V
     {
@@ -565,6 +591,8 @@ impl<'a, K: Key, V: Sized> OccupiedEntry<'a, K, V> {
     /// ensures old { side_entry_value K.data_of (Occupied self.old) ≡ Some result }
     /// ensures written { IsWritten K.data_of (Occupied self.old) value (Occupied self.new) }
     /// ```
+    ///
+    /// Words: [`IsSideInPlace`](crate::words#issideinplace), [`IsWritten`](crate::words#iswritten-of-slotmap_secondary-entry), [`side_entry_value`](crate::words#side_entry_value).
     #[inline]
     pub fn insert(&mut self, value: V) -> V
     {
@@ -599,6 +627,8 @@ impl<'a, K: Key, V: Sized> OccupiedEntry<'a, K, V> {
     /// ensures value { side_entry_value K.data_of (Occupied self.entry) ≡ Some result.1 }
     /// ensures removes { self.exit.0.now ≡ entry_without K.data_of (Occupied self.entry) }
     /// ```
+    ///
+    /// Words: [`entry_without`](crate::words#entry_without-of-slotmap_secondary-entry), [`IsSideInPlace`](crate::words#issideinplace), [`side_entry_key`](crate::words#side_entry_key), [`side_entry_value`](crate::words#side_entry_value).
     #[inline]
     pub fn remove_entry(self) -> (K, V)
     {
@@ -633,6 +663,8 @@ impl<'a, K: Key, V: Sized> OccupiedEntry<'a, K, V> {
     /// ensures value { side_entry_value K.data_of (Occupied self.entry) ≡ Some result }
     /// ensures removes { self.exit.0.now ≡ entry_without K.data_of (Occupied self.entry) }
     /// ```
+    ///
+    /// Words: [`entry_without`](crate::words#entry_without-of-slotmap_secondary-entry), [`IsSideInPlace`](crate::words#issideinplace), [`side_entry_value`](crate::words#side_entry_value).
     #[inline]
     pub fn remove(self) -> V
     {

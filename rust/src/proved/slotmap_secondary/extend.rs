@@ -46,6 +46,8 @@ impl<K: Key, V: Sized> SecondaryMap<K, V> {
     ///
     /// ensures valid { IsSideContent self.new }
     /// ```
+    ///
+    /// Words: [`capacity`](crate::words#capacity-of-slotmap_secondary-content), [`Extends`](crate::words#extends), [`Grows`](crate::words#grows), [`index`](crate::words#index), [`IsSideContent`](crate::words#issidecontent), [`pairs`](crate::words#pairs-of-slotmap_secondary-content).
     #[inline]
     pub fn extend<I: IntoIterator<Item = (K, V)>>(&mut self, iter: I) -> Result<(), (K, V)>
     {
@@ -93,6 +95,8 @@ impl<K: Key, V: Sized> SecondaryMap<K, V> {
     ///
     /// ensures valid { IsSideContent self.new }
     /// ```
+    ///
+    /// Words: [`capacity`](crate::words#capacity-of-slotmap_secondary-content), [`ExtendsBy`](crate::words#extendsby), [`Grows`](crate::words#grows), [`index`](crate::words#index), [`IsSideContent`](crate::words#issidecontent), [`pairs`](crate::words#pairs-of-slotmap_secondary-content).
     #[inline]
     pub fn extend_refs<'b, I: IntoIterator<Item = (K, &'b V)>>(
         &mut self,
@@ -145,6 +149,8 @@ impl<K: Key, V: Sized> SecondaryMap<K, V> {
     ///     × LacksPlace K.data_of pairs pair)) }
     /// ensures valid { IfOk result IsSideContent }
     /// ```
+    ///
+    /// Words: [`AllPut`](crate::words#allput), [`EndsAtPair`](crate::words#endsatpair), [`IsSideContent`](crate::words#issidecontent), [`LacksPlace`](crate::words#lacksplace), [`pairs`](crate::words#pairs-of-slotmap_secondary-content), [`places`](crate::words#places-of-slotmap_secondary-content).
     #[inline]
     pub fn from_iter<I: IntoIterator<Item = (K, V)>>(
         alloc: Global,

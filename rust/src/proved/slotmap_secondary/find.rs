@@ -66,6 +66,8 @@ impl<K: Key, V: Sized> SecondaryMap<K, V> {
     /// ensures none { IfNone result (map.get self.now.pairs index ≡ None) }
     /// ensures valid { IsSideContent self.now }
     /// ```
+    ///
+    /// Words: [`contains_key`](crate::words#contains_key), [`index`](crate::words#index), [`IsSideContent`](crate::words#issidecontent), [`pairs`](crate::words#pairs-of-slotmap_secondary-content).
     #[inline]
     pub fn key_at(&self, index: usize) -> Option<K>
     {

@@ -143,6 +143,8 @@ impl<K: Key, V: Sized> SecondaryMap<K, V> {
     ///
     /// ensures valid { IsSideContent self.new }
     /// ```
+    ///
+    /// Words: [`capacity`](crate::words#capacity-of-slotmap_secondary-content), [`get`](crate::words#get), [`index`](crate::words#index), [`IsSideContent`](crate::words#issidecontent), [`pairs`](crate::words#pairs-of-slotmap_secondary-content), [`put`](crate::words#put), [`Reaches`](crate::words#reaches), [`RefusesPut`](crate::words#refusesput).
     #[inline(always)]
     pub fn insert(&mut self, key: K, value: V) -> Result<Option<V>, PutError<V>>
     {
@@ -197,6 +199,8 @@ impl<K: Key, V: Sized> SecondaryMap<K, V> {
     /// ensures grows { self.old.capacity ≤ self.new.capacity }
     /// ensures valid { IsSideContent self.new }
     /// ```
+    ///
+    /// Words: [`capacity`](crate::words#capacity-of-slotmap_secondary-content), [`index`](crate::words#index), [`IsSideContent`](crate::words#issidecontent), [`OrPutReaches`](crate::words#orputreaches), [`OrPuts`](crate::words#orputs), [`pairs`](crate::words#pairs-of-slotmap_secondary-content).
     #[inline]
     pub fn or_put(&mut self, key: K, value: V) -> OrPut<V>
     {

@@ -336,6 +336,8 @@ impl<K: Key, V> SecondaryMap<K, V> {
     /// ensures in_order { result ≡ map.entries (keyed self.now.pairs) }
     /// ensures valid { IsSideContent self.now }
     /// ```
+    ///
+    /// Words: [`IsListing`](crate::words#islisting), [`IsSideContent`](crate::words#issidecontent), [`keyed`](crate::words#keyed), [`pairs`](crate::words#pairs-of-slotmap_secondary-content).
     #[inline]
     pub fn iter(&self) -> Iter<'_, K, V>
     {
@@ -376,6 +378,8 @@ impl<K: Key, V> SecondaryMap<K, V> {
     /// ensures in_order { result ≡ map.keys (keyed self.now.pairs) }
     /// ensures valid { IsSideContent self.now }
     /// ```
+    ///
+    /// Words: [`IsKeyListing`](crate::words#iskeylisting), [`IsSideContent`](crate::words#issidecontent), [`keyed`](crate::words#keyed), [`pairs`](crate::words#pairs-of-slotmap_secondary-content).
     #[inline]
     pub fn keys(&self) -> Keys<'_, K, V>
     {
@@ -411,6 +415,8 @@ impl<K: Key, V> SecondaryMap<K, V> {
     /// ensures in_order { result ≡ map.values (keyed self.now.pairs) }
     /// ensures valid { IsSideContent self.now }
     /// ```
+    ///
+    /// Words: [`IsSideContent`](crate::words#issidecontent), [`IsValueListing`](crate::words#isvaluelisting), [`keyed`](crate::words#keyed), [`pairs`](crate::words#pairs-of-slotmap_secondary-content).
     #[inline]
     pub fn values(&self) -> Values<'_, K, V>
     {

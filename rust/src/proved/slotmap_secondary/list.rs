@@ -57,6 +57,8 @@ impl<K: Key, V: Sized> SecondaryMap<K, V> {
     ///
     /// ensures valid { IsSideContent self.now }
     /// ```
+    ///
+    /// Words: [`ClonesEqual`](crate::words#clonesequal), [`get`](crate::words#get), [`IsCloneOf`](crate::words#iscloneof), [`IsSideContent`](crate::words#issidecontent), [`Key`](crate::words#key), [`keyed`](crate::words#keyed), [`pairs`](crate::words#pairs-of-slotmap_secondary-content), [`start_live`](crate::words#start_live), [`WritesSide`](crate::words#writesside), [`WritesSideClones`](crate::words#writessideclones).
     #[inline]
     pub fn to_slots(&self) -> Result<Vec<SlotRecord<V>>, OutOfMemory>
     where
@@ -115,6 +117,8 @@ impl<K: Key, V: Sized> SecondaryMap<K, V> {
     /// ensures accepted { IsOk result → Accepts list.items side_list_limit }
     /// ensures err { IfErr result (RefusesStart list.items side_list_limit) }
     /// ```
+    ///
+    /// Words: [`Accepts`](crate::words#accepts), [`IsSideContent`](crate::words#issidecontent), [`keyed`](crate::words#keyed), [`pairs`](crate::words#pairs-of-slotmap_secondary-content), [`places`](crate::words#places-of-slotmap_secondary-content), [`RefusesStart`](crate::words#refusesstart), [`side_list_limit`](crate::words#side_list_limit), [`start_live`](crate::words#start_live).
     #[inline]
     pub fn from_slots(alloc: Global, list: Vec<SlotRecord<V>>) -> Result<Self, SlotsError>
     {

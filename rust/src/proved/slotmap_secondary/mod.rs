@@ -133,6 +133,8 @@ impl<K: Key, V: Sized> SecondaryMap<K, V> {
     /// ensures err { IfErr result (λ error. error ≡ ReserveError.Memory) }
     /// ensures valid { IfOk result IsSideContent }
     /// ```
+    ///
+    /// Words: [`IsSideContent`](crate::words#issidecontent), [`pairs`](crate::words#pairs-of-slotmap_secondary-content), [`places`](crate::words#places-of-slotmap_secondary-content).
     #[inline]
     pub fn new(alloc: Global) -> Result<Self, ReserveError>
     {
@@ -170,6 +172,8 @@ impl<K: Key, V: Sized> SecondaryMap<K, V> {
     /// ensures err { IfErr result (RefusesCapacity capacity) }
     /// ensures valid { IfOk result IsSideContent }
     /// ```
+    ///
+    /// Words: [`capacity`](crate::words#capacity-of-slotmap_secondary-content), [`IsSideContent`](crate::words#issidecontent), [`most`](crate::words#most), [`pairs`](crate::words#pairs-of-slotmap_secondary-content), [`places`](crate::words#places-of-slotmap_secondary-content), [`RefusesCapacity`](crate::words#refusescapacity).
     #[inline]
     pub fn with_capacity(alloc: Global, capacity: usize) -> Result<Self, ReserveError>
     {
@@ -217,6 +221,8 @@ impl<K: Key, V: Sized> SecondaryMap<K, V> {
     /// ensures value { result ≡ map.len self.now.pairs }
     /// ensures valid { IsSideContent self.now }
     /// ```
+    ///
+    /// Words: [`IsSideContent`](crate::words#issidecontent), [`pairs`](crate::words#pairs-of-slotmap_secondary-content).
     #[inline]
     pub fn len(&self) -> usize
     {
@@ -248,6 +254,8 @@ impl<K: Key, V: Sized> SecondaryMap<K, V> {
     /// ensures value { IsTrue result ↔ (map.len self.now.pairs ≡ 0) }
     /// ensures valid { IsSideContent self.now }
     /// ```
+    ///
+    /// Words: [`IsSideContent`](crate::words#issidecontent), [`pairs`](crate::words#pairs-of-slotmap_secondary-content).
     #[inline]
     pub fn is_empty(&self) -> bool
     {
@@ -282,6 +290,8 @@ impl<K: Key, V: Sized> SecondaryMap<K, V> {
     /// ensures fits { map.len self.now.pairs ≤ result + 1 }
     /// ensures valid { IsSideContent self.now }
     /// ```
+    ///
+    /// Words: [`capacity`](crate::words#capacity-of-slotmap_secondary-content), [`IsSideContent`](crate::words#issidecontent), [`pairs`](crate::words#pairs-of-slotmap_secondary-content).
     #[inline]
     pub fn capacity(&self) -> usize
     {
@@ -319,6 +329,8 @@ impl<K: Key, V: Sized> SecondaryMap<K, V> {
     /// ensures sets { SetsCapacity capacity self.old result self.new }
     /// ensures valid { IsSideContent self.new }
     /// ```
+    ///
+    /// Words: [`IsSideContent`](crate::words#issidecontent), [`SetsCapacity`](crate::words#setscapacity).
     #[inline]
     pub fn set_capacity(&mut self, capacity: usize) -> Result<(), ReserveError>
     {
@@ -356,6 +368,8 @@ impl<K: Key, V: Sized> SecondaryMap<K, V> {
     /// ensures sets { SetsCapacity capacity self.old result self.new }
     /// ensures valid { IsSideContent self.new }
     /// ```
+    ///
+    /// Words: [`IsSideContent`](crate::words#issidecontent), [`SetsCapacity`](crate::words#setscapacity).
     #[inline]
     pub fn try_set_capacity(&mut self, capacity: usize) -> Result<(), ReserveError>
     {

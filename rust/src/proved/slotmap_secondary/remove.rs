@@ -36,6 +36,8 @@ impl<K: Key, V: Sized> SecondaryMap<K, V> {
     /// ensures removes { self.new ≡ record self.old { pairs = remove self.old.pairs (K.data_of key) } }
     /// ensures valid { IsSideContent self.new }
     /// ```
+    ///
+    /// Words: [`get`](crate::words#get), [`IsSideContent`](crate::words#issidecontent), [`pairs`](crate::words#pairs-of-slotmap_secondary-content), [`remove`](crate::words#remove).
     #[inline]
     pub fn remove(&mut self, key: K) -> Option<V>
     {

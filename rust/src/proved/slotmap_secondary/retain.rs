@@ -53,6 +53,8 @@ impl<K: Key, V: Sized> SecondaryMap<K, V> {
     /// ensures keeps { self.new ≡ record self.old { pairs = self.new.pairs } }
     /// ensures valid { IsSideContent self.new }
     /// ```
+    ///
+    /// Words: [`CallableOnEach`](crate::words#callableoneach), [`IsSideContent`](crate::words#issidecontent), [`keyed`](crate::words#keyed), [`pairs`](crate::words#pairs-of-slotmap_secondary-content), [`RetainsBy`](crate::words#retainsby).
     #[inline]
     pub fn retain<F: FnMut(K, &mut V) -> bool>(&mut self, mut f: F)
     where

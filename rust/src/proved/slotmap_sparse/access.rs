@@ -36,6 +36,8 @@ impl<K: Key, V: Sized, S: BuildHasher> SparseSecondaryMap<K, V, S> {
     /// ensures value { result ≡ contains_key self.now.pairs (K.data_of key) }
     /// ensures valid { IsSparseContent self.now }
     /// ```
+    ///
+    /// Words: [`contains_key`](crate::words#contains_key), [`IsSparseContent`](crate::words#issparsecontent), [`pairs`](crate::words#pairs-of-slotmap_sparse-content).
     #[inline]
     pub fn contains_key(&self, key: K) -> bool
     {
@@ -68,6 +70,8 @@ impl<K: Key, V: Sized, S: BuildHasher> SparseSecondaryMap<K, V, S> {
     /// ensures value { option_copied result ≡ get self.now.pairs (K.data_of key) }
     /// ensures valid { IsSparseContent self.now }
     /// ```
+    ///
+    /// Words: [`get`](crate::words#get), [`IsSparseContent`](crate::words#issparsecontent), [`pairs`](crate::words#pairs-of-slotmap_sparse-content).
     #[inline]
     pub fn get(&self, key: K) -> Option<&V>
     {
@@ -111,6 +115,8 @@ impl<K: Key, V: Sized, S: BuildHasher> SparseSecondaryMap<K, V, S> {
     /// ensures value { get self.now.pairs (K.data_of key) ≡ Some result.now }
     /// ensures valid { IsSparseContent self.now }
     /// ```
+    ///
+    /// Words: [`contains_key`](crate::words#contains_key), [`get`](crate::words#get), [`IsSparseContent`](crate::words#issparsecontent), [`pairs`](crate::words#pairs-of-slotmap_sparse-content).
     #[inline]
     pub fn get_unchecked(&self, key: K) -> &V
     {
@@ -148,6 +154,8 @@ impl<K: Key, V: Sized, S: BuildHasher> SparseSecondaryMap<K, V, S> {
     /// ensures value { option_copied_mut result ≡ get self.old.pairs (K.data_of key) }
     /// ensures valid { IsSparseContent self.old }
     /// ```
+    ///
+    /// Words: [`get`](crate::words#get), [`IsSparseContent`](crate::words#issparsecontent), [`lends_get`](crate::words#lends_get-of-slotmap_sparse-lends), [`pairs`](crate::words#pairs-of-slotmap_sparse-content).
     #[inline]
     pub fn get_mut(&mut self, key: K) -> Option<&mut V>
     {
@@ -190,6 +198,8 @@ impl<K: Key, V: Sized, S: BuildHasher> SparseSecondaryMap<K, V, S> {
     /// ensures value { get self.old.pairs (K.data_of key) ≡ Some result.now }
     /// ensures valid { IsSparseContent self.old }
     /// ```
+    ///
+    /// Words: [`contains_key`](crate::words#contains_key), [`get`](crate::words#get), [`IsSparseContent`](crate::words#issparsecontent), [`lends_value`](crate::words#lends_value-of-slotmap_sparse-lends), [`pairs`](crate::words#pairs-of-slotmap_sparse-content).
     #[inline]
     pub fn get_unchecked_mut(&mut self, key: K) -> &mut V
     {
@@ -238,6 +248,8 @@ impl<K: Key, V: Sized, S: BuildHasher> SparseSecondaryMap<K, V, S> {
     ///
     /// ensures valid { IsSparseContent self.new }
     /// ```
+    ///
+    /// Words: [`AreValuesOf`](crate::words#arevaluesof-of-slotmap_core-several), [`bind`](crate::words#bind), [`CanReplace`](crate::words#canreplace-of-slotmap_core-several), [`get`](crate::words#get), [`IsSparseContent`](crate::words#issparsecontent), [`pairs`](crate::words#pairs-of-slotmap_sparse-content), [`with_values`](crate::words#with_values-of-slotmap_core-several).
     #[inline]
     pub fn replace_disjoint<const N: usize>(
         &mut self,
@@ -336,6 +348,8 @@ impl<K: Key, V: Sized, S: BuildHasher> IndexMut<K> for SparseSecondaryMap<K, V, 
     /// ensures value { get self.old.pairs (K.data_of key) ≡ Some result.now }
     /// ensures valid { IsSparseContent self.old }
     /// ```
+    ///
+    /// Words: [`contains_key`](crate::words#contains_key), [`get`](crate::words#get), [`IsSparseContent`](crate::words#issparsecontent), [`lends_value`](crate::words#lends_value-of-slotmap_sparse-lends), [`pairs`](crate::words#pairs-of-slotmap_sparse-content).
     #[inline]
     fn index_mut(&mut self, key: K) -> &mut V
     {

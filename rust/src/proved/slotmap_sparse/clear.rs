@@ -35,6 +35,8 @@ impl<K: Key, V: Sized, S: BuildHasher> SparseSecondaryMap<K, V, S> {
     /// ensures capacity { self.old.capacity ≤ self.new.capacity }
     /// ensures valid { IsSparseContent self.new }
     /// ```
+    ///
+    /// Words: [`capacity`](crate::words#capacity-of-slotmap_sparse-content), [`IsSparseContent`](crate::words#issparsecontent), [`pairs`](crate::words#pairs-of-slotmap_sparse-content).
     #[inline]
     pub fn clear(&mut self)
     {

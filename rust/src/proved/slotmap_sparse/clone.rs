@@ -45,6 +45,8 @@ impl<K: Key, V: Clone, S: BuildHasher + Clone> SparseSecondaryMap<K, V, S> {
     ///
     /// ensures valid { IfOk result IsSparseContent }
     /// ```
+    ///
+    /// Words: [`ClonesEqual`](crate::words#clonesequal), [`HasClones`](crate::words#hasclones), [`IsSparseContent`](crate::words#issparsecontent), [`pairs`](crate::words#pairs-of-slotmap_sparse-content).
     #[inline]
     pub fn clone(&self) -> Result<Self, AllocError>
     {
@@ -89,6 +91,8 @@ impl<K: Key, V: Clone, S: BuildHasher + Clone> SparseSecondaryMap<K, V, S> {
     /// ensures unchanged { OnErr result (self.new ≡ self.old) }
     /// ensures valid { OnOk result (IsSparseContent self.new) }
     /// ```
+    ///
+    /// Words: [`ClonesEqual`](crate::words#clonesequal), [`HasClones`](crate::words#hasclones), [`IsSparseContent`](crate::words#issparsecontent), [`pairs`](crate::words#pairs-of-slotmap_sparse-content).
     #[inline]
     pub fn clone_from(&mut self, source: &Self) -> Result<(), AllocError>
     where

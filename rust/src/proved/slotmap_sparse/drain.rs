@@ -96,6 +96,8 @@ impl<K: Key, V: Sized, S: BuildHasher> SparseSecondaryMap<K, V, S> {
     ///
     /// ensures valid { IsSparseContent self.old }
     /// ```
+    ///
+    /// Words: [`DrainKeeps`](crate::words#drainkeeps), [`IsSparseContent`](crate::words#issparsecontent), [`KeepsAlong`](crate::words#keepsalong), [`keyed`](crate::words#keyed), [`ListsAlong`](crate::words#listsalong), [`pairs`](crate::words#pairs-of-slotmap_sparse-content), [`sparse_drain_loan`](crate::words#sparse_drain_loan), [`SparseDrainSteps`](crate::words#sparsedrainsteps).
     #[inline]
     pub fn drain(&mut self) -> Drain<'_, K, V, S>
     {

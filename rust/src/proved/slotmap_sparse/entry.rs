@@ -74,6 +74,8 @@ impl<K: Key, V: Sized, S: BuildHasher> SparseSecondaryMap<K, V, S> {
     /// ensures ok { IfEntry result (Enters K.data_of self.entry key) }
     /// ensures valid { IsSparseContent self.old }
     /// ```
+    ///
+    /// Words: [`Enters`](crate::words#enters-of-slotmap_sparse-entry), [`IfEntry`](crate::words#ifentry-of-slotmap_sparse-entry), [`IsEntryOf`](crate::words#isentryof-of-slotmap_sparse-entry), [`IsSparseContent`](crate::words#issparsecontent), [`pairs`](crate::words#pairs-of-slotmap_sparse-content).
     #[inline]
     pub fn entry(&mut self, key: K) -> Result<Option<Entry<'_, K, V, S>>, OutOfMemory>
     {
@@ -115,6 +117,8 @@ impl<K: Key, V: Sized, S: BuildHasher> SparseSecondaryMap<K, V, S> {
     /// ensures* unchanged { sem 𝓛 (rests_if_err K.row V.row S.row S.Hasher.row S.BuildHasher S.Hasher.Hasher self.entry result) }
     /// ensures valid { IsSparseContent self.old }
     /// ```
+    ///
+    /// Words: [`Enters`](crate::words#enters-of-slotmap_sparse-entry), [`entry`](crate::words#entry-of-slotmap_core-secondary), [`IsEntryOf`](crate::words#isentryof-of-slotmap_sparse-entry), [`IsSparseContent`](crate::words#issparsecontent), [`no_entry`](crate::words#no_entry), [`pairs`](crate::words#pairs-of-slotmap_sparse-content), [`rests_if_err`](crate::words#rests_if_err-of-slotmap_sparse-entry).
     #[inline]
     pub fn try_entry(&mut self, key: K) -> Result<Entry<'_, K, V, S>, NoEntry>
     {
@@ -153,6 +157,8 @@ impl<'a, K: Key, V: Sized, S: BuildHasher> Entry<'a, K, V, S> {
     /// ```text
     /// ensures { result ≡ sparse_entry_key self.now }
     /// ```
+    ///
+    /// Words: [`sparse_entry_key`](crate::words#sparse_entry_key).
     #[inline]
     pub fn key(&self) -> K
     {
@@ -196,6 +202,8 @@ impl<'a, K: Key, V: Sized, S: BuildHasher> Entry<'a, K, V, S> {
     /// ensures same_removal { entry_without K.data_of result ≡ entry_without K.data_of self.entry }
     /// ensures value { ModifiesValue F.FnOnce f (sparse_entry_value K.data_of self.entry) (sparse_entry_value K.data_of result) }
     /// ```
+    ///
+    /// Words: [`entry_lender`](crate::words#entry_lender-of-slotmap_sparse-entry), [`entry_without`](crate::words#entry_without-of-slotmap_sparse-entry), [`IsSparseInPlace`](crate::words#issparseinplace), [`sparse_entry_key`](crate::words#sparse_entry_key), [`sparse_entry_value`](crate::words#sparse_entry_value), [`sparse_entry_with`](crate::words#sparse_entry_with).
     #[inline]
     pub fn and_modify<F: FnOnce(&mut V)>(self, f: F) -> Entry<'a, K, V, S>
     where
@@ -244,6 +252,8 @@ impl<'a, K: Key, V: Sized, S: BuildHasher> Entry<'a, K, V, S> {
     /// ensures err { IfErr result (λ error. (sparse_entry_value K.data_of self.entry ≡ None) × (error.0 ≡ value)) }
     /// ensures room { map.len (sparse_entry_map self.entry).pairs < (sparse_entry_map self.entry).capacity → IsOk result }
     /// ```
+    ///
+    /// Words: [`capacity`](crate::words#capacity-of-slotmap_sparse-content), [`entry_lends_ok`](crate::words#entry_lends_ok), [`IsSparseInPlace`](crate::words#issparseinplace), [`pairs`](crate::words#pairs-of-slotmap_sparse-content), [`room`](crate::words#room-of-slotmap_sparse-content), [`sparse_entry_map`](crate::words#sparse_entry_map), [`sparse_entry_value`](crate::words#sparse_entry_value).
     #[inline]
     pub fn or_insert(self, value: V) -> Result<&'a mut V, PutError<V>>
     {
@@ -285,6 +295,8 @@ impl<'a, K: Key, V: Sized, S: BuildHasher> Entry<'a, K, V, S> {
     /// ensures err { OnErr result (sparse_entry_value K.data_of self.entry ≡ None) }
     /// ensures room { map.len (sparse_entry_map self.entry).pairs < (sparse_entry_map self.entry).capacity → IsOk result }
     /// ```
+    ///
+    /// Words: [`capacity`](crate::words#capacity-of-slotmap_sparse-content), [`entry_lends_ok`](crate::words#entry_lends_ok), [`IsSparseInPlace`](crate::words#issparseinplace), [`pairs`](crate::words#pairs-of-slotmap_sparse-content), [`room`](crate::words#room-of-slotmap_sparse-content), [`sparse_entry_map`](crate::words#sparse_entry_map), [`sparse_entry_value`](crate::words#sparse_entry_value).
     #[inline]
     pub fn or_insert_with<F: FnOnce() -> V>(self, f: F) -> Result<&'a mut V, OutOfMemory>
     where
@@ -325,6 +337,8 @@ impl<'a, K: Key, V: Sized, S: BuildHasher> Entry<'a, K, V, S> {
     /// ensures err { OnErr result (sparse_entry_value K.data_of self.entry ≡ None) }
     /// ensures room { map.len (sparse_entry_map self.entry).pairs < (sparse_entry_map self.entry).capacity → IsOk result }
     /// ```
+    ///
+    /// Words: [`capacity`](crate::words#capacity-of-slotmap_sparse-content), [`entry_lends_ok`](crate::words#entry_lends_ok), [`IsSparseInPlace`](crate::words#issparseinplace), [`pairs`](crate::words#pairs-of-slotmap_sparse-content), [`room`](crate::words#room-of-slotmap_sparse-content), [`sparse_entry_map`](crate::words#sparse_entry_map), [`sparse_entry_value`](crate::words#sparse_entry_value).
     #[inline]
     pub fn or_default(self) -> Result<&'a mut V, OutOfMemory>
     where
@@ -362,6 +376,8 @@ impl<'a, K: Key, V: Sized, S: BuildHasher> VacantEntry<'a, K, V, S> {
     /// ```text
     /// ensures { result ≡ sparse_entry_key (Vacant self.now) }
     /// ```
+    ///
+    /// Words: [`sparse_entry_key`](crate::words#sparse_entry_key).
     #[inline]
     pub fn key(&self) -> K
     {
@@ -401,6 +417,8 @@ impl<'a, K: Key, V: Sized, S: BuildHasher> VacantEntry<'a, K, V, S> {
     /// ensures err { IfErr result (λ error. error.0 ≡ value) }
     /// ensures room { map.len (sparse_entry_map (Vacant self.entry)).pairs < (sparse_entry_map (Vacant self.entry)).capacity → IsOk result }
     /// ```
+    ///
+    /// Words: [`capacity`](crate::words#capacity-of-slotmap_sparse-content), [`entry_lends_ok`](crate::words#entry_lends_ok), [`IsSparseInPlace`](crate::words#issparseinplace), [`pairs`](crate::words#pairs-of-slotmap_sparse-content), [`room`](crate::words#room-of-slotmap_sparse-content), [`sparse_entry_map`](crate::words#sparse_entry_map).
     #[inline]
     pub fn insert(self, value: V) -> Result<&'a mut V, PutError<V>>
     {
@@ -449,6 +467,8 @@ impl<'a, K: Key, V: Sized, S: BuildHasher> OccupiedEntry<'a, K, V, S> {
     /// ```text
     /// ensures { result ≡ sparse_entry_key (Occupied self.now) }
     /// ```
+    ///
+    /// Words: [`sparse_entry_key`](crate::words#sparse_entry_key).
     #[inline]
     pub fn key(&self) -> K
     {
@@ -480,6 +500,8 @@ impl<'a, K: Key, V: Sized, S: BuildHasher> OccupiedEntry<'a, K, V, S> {
     /// requires { IsSparseInPlace K.data_of (Occupied self.now) }
     /// ensures { sparse_entry_value K.data_of (Occupied self.now) ≡ Some result.now }
     /// ```
+    ///
+    /// Words: [`IsSparseInPlace`](crate::words#issparseinplace), [`sparse_entry_value`](crate::words#sparse_entry_value).
     #[inline]
     pub fn get(&self) -> &V
     {
@@ -514,6 +536,8 @@ impl<'a, K: Key, V: Sized, S: BuildHasher> OccupiedEntry<'a, K, V, S> {
     /// ensures value { sparse_entry_value K.data_of (Occupied self.old) ≡ Some result.now }
     /// ensures written { (w : V) → IsWritten K.data_of (Occupied self.old) w (Occupied (occupied_with K.data_of self.old w)) }
     /// ```
+    ///
+    /// Words: [`IsSparseInPlace`](crate::words#issparseinplace), [`IsWritten`](crate::words#iswritten-of-slotmap_sparse-entry), [`occupied_lends`](crate::words#occupied_lends-of-slotmap_sparse-entry), [`occupied_with`](crate::words#occupied_with-of-slotmap_sparse-entry), [`sparse_entry_value`](crate::words#sparse_entry_value).
     #[inline]
     pub fn get_mut(&mut self) -> &mut V
     {
@@ -550,6 +574,8 @@ impl<'a, K: Key, V: Sized, S: BuildHasher> OccupiedEntry<'a, K, V, S> {
     /// ensures* writes_back { sem 𝓛 (entry_lends K.row V.row S.row S.Hasher.row S.BuildHasher S.Hasher.Hasher K.data_of (Occupied self.entry) result) }
     /// ensures value { sparse_entry_value K.data_of (Occupied self.entry) ≡ Some result.now }
     /// ```
+    ///
+    /// Words: [`entry_lends`](crate::words#entry_lends-of-slotmap_sparse-entry), [`IsSparseInPlace`](crate::words#issparseinplace), [`sparse_entry_value`](crate::words#sparse_entry_value).
     #[inline]
     pub fn into_mut(self) -> &'a mut V
     {
@@ -584,6 +610,8 @@ impl<'a, K: Key, V: Sized, S: BuildHasher> OccupiedEntry<'a, K, V, S> {
     /// ensures old { sparse_entry_value K.data_of (Occupied self.old) ≡ Some result }
     /// ensures written { IsWritten K.data_of (Occupied self.old) value (Occupied self.new) }
     /// ```
+    ///
+    /// Words: [`IsSparseInPlace`](crate::words#issparseinplace), [`IsWritten`](crate::words#iswritten-of-slotmap_sparse-entry), [`sparse_entry_value`](crate::words#sparse_entry_value).
     #[inline]
     pub fn insert(&mut self, value: V) -> V
     {
@@ -619,6 +647,8 @@ impl<'a, K: Key, V: Sized, S: BuildHasher> OccupiedEntry<'a, K, V, S> {
     /// ensures removes { self.exit.0.now.pairs ≡ entry_without K.data_of (Occupied self.entry) }
     /// ensures room { room (sparse_entry_map (Occupied self.entry)) ≤ room self.exit.0.now }
     /// ```
+    ///
+    /// Words: [`entry_without`](crate::words#entry_without-of-slotmap_sparse-entry), [`IsSparseInPlace`](crate::words#issparseinplace), [`pairs`](crate::words#pairs-of-slotmap_sparse-content), [`room`](crate::words#room-of-slotmap_sparse-content), [`sparse_entry_key`](crate::words#sparse_entry_key), [`sparse_entry_map`](crate::words#sparse_entry_map), [`sparse_entry_value`](crate::words#sparse_entry_value).
     #[inline]
     pub fn remove_entry(self) -> (K, V)
     {
@@ -654,6 +684,8 @@ impl<'a, K: Key, V: Sized, S: BuildHasher> OccupiedEntry<'a, K, V, S> {
     /// ensures removes { self.exit.0.now.pairs ≡ entry_without K.data_of (Occupied self.entry) }
     /// ensures room { room (sparse_entry_map (Occupied self.entry)) ≤ room self.exit.0.now }
     /// ```
+    ///
+    /// Words: [`entry_without`](crate::words#entry_without-of-slotmap_sparse-entry), [`IsSparseInPlace`](crate::words#issparseinplace), [`pairs`](crate::words#pairs-of-slotmap_sparse-content), [`room`](crate::words#room-of-slotmap_sparse-content), [`sparse_entry_map`](crate::words#sparse_entry_map), [`sparse_entry_value`](crate::words#sparse_entry_value).
     #[inline]
     pub fn remove(self) -> V
     {

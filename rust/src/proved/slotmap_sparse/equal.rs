@@ -37,6 +37,8 @@ impl<K: Key, V: PartialEq, S: BuildHasher> PartialEq for SparseSecondaryMap<K, V
     /// ensures value { result ≡ are_equal V.eq self.now.pairs other.now.pairs }
     /// ensures which { IsTrue result ↔ AreEqual V.eq self.now.pairs other.now.pairs }
     /// ```
+    ///
+    /// Words: [`are_equal`](crate::words#are_equal), [`AreEqual`](crate::words#areequal), [`pairs`](crate::words#pairs-of-slotmap_sparse-content).
     #[inline]
     fn eq(&self, other: &Self) -> bool
     {

@@ -49,6 +49,8 @@ impl<K: Key, V: Sized, S: BuildHasher> SparseSecondaryMap<K, V, S> {
     ///
     /// ensures valid { IsSparseContent self.new }
     /// ```
+    ///
+    /// Words: [`capacity`](crate::words#capacity-of-slotmap_sparse-content), [`Extends`](crate::words#extends), [`index`](crate::words#index), [`IsSparseContent`](crate::words#issparsecontent), [`pairs`](crate::words#pairs-of-slotmap_sparse-content).
     #[inline]
     pub fn extend<I: IntoIterator<Item = (K, V)>>(&mut self, iter: I) -> Result<(), (K, V)>
     {
@@ -98,6 +100,8 @@ impl<K: Key, V: Sized, S: BuildHasher> SparseSecondaryMap<K, V, S> {
     ///
     /// ensures valid { IsSparseContent self.new }
     /// ```
+    ///
+    /// Words: [`capacity`](crate::words#capacity-of-slotmap_sparse-content), [`ExtendsBy`](crate::words#extendsby), [`index`](crate::words#index), [`IsSparseContent`](crate::words#issparsecontent), [`pairs`](crate::words#pairs-of-slotmap_sparse-content).
     #[inline]
     pub fn extend_refs<'b, I: IntoIterator<Item = (K, &'b V)>>(
         &mut self,
@@ -154,6 +158,8 @@ impl<K: Key, V: Sized, S: BuildHasher> SparseSecondaryMap<K, V, S> {
     ///     × LacksRoomForPair K.data_of pairs pair) }
     /// ensures valid { IfOk result IsSparseContent }
     /// ```
+    ///
+    /// Words: [`AllPut`](crate::words#allput), [`IsSparseContent`](crate::words#issparsecontent), [`LacksRoomForPair`](crate::words#lacksroomforpair), [`pairs`](crate::words#pairs-of-slotmap_sparse-content).
     #[inline]
     pub fn from_iter_with_hasher<I: IntoIterator<Item = (K, V)>>(
         alloc: Global,
@@ -210,6 +216,8 @@ impl<K: Key, V: Sized> SparseSecondaryMap<K, V> {
     ///     × LacksRoomForPair K.data_of pairs pair) }
     /// ensures valid { IfOk result IsSparseContent }
     /// ```
+    ///
+    /// Words: [`AllPut`](crate::words#allput), [`IsSparseContent`](crate::words#issparsecontent), [`LacksRoomForPair`](crate::words#lacksroomforpair), [`pairs`](crate::words#pairs-of-slotmap_sparse-content).
     #[inline]
     pub fn from_iter<I: IntoIterator<Item = (K, V)>>(
         alloc: Global,

@@ -95,6 +95,8 @@ impl<K: Key, V: Sized, S: BuildHasher> SparseSecondaryMap<K, V, S> {
     /// ensures capacity { self.old.capacity ≤ self.new.capacity }
     /// ensures valid { IsSparseContent self.new }
     /// ```
+    ///
+    /// Words: [`capacity`](crate::words#capacity-of-slotmap_sparse-content), [`get`](crate::words#get), [`index`](crate::words#index), [`is_null`](crate::words#is_null), [`IsSparseContent`](crate::words#issparsecontent), [`pairs`](crate::words#pairs-of-slotmap_sparse-content), [`put`](crate::words#put), [`RefusesPut`](crate::words#refusesput).
     #[inline(always)]
     pub fn insert(&mut self, key: K, value: V) -> Result<Option<V>, PutError<V>>
     {
@@ -154,6 +156,8 @@ impl<K: Key, V: Sized, S: BuildHasher> SparseSecondaryMap<K, V, S> {
     /// ensures capacity { self.old.capacity ≤ self.new.capacity }
     /// ensures valid { IsSparseContent self.new }
     /// ```
+    ///
+    /// Words: [`capacity`](crate::words#capacity-of-slotmap_sparse-content), [`index`](crate::words#index), [`is_null`](crate::words#is_null), [`IsSparseContent`](crate::words#issparsecontent), [`OrPuts`](crate::words#orputs), [`pairs`](crate::words#pairs-of-slotmap_sparse-content).
     #[inline]
     pub fn or_put(&mut self, key: K, value: V) -> OrPut<V>
     {

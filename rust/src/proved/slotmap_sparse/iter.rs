@@ -300,6 +300,8 @@ impl<K: Key, V, S: BuildHasher> SparseSecondaryMap<K, V, S> {
     /// ensures listing { IsListing (keyed self.now.pairs) result }
     /// ensures valid { IsSparseContent self.now }
     /// ```
+    ///
+    /// Words: [`IsListing`](crate::words#islisting), [`IsSparseContent`](crate::words#issparsecontent), [`keyed`](crate::words#keyed), [`pairs`](crate::words#pairs-of-slotmap_sparse-content).
     #[inline]
     pub fn iter(&self) -> Iter<'_, K, V>
     {
@@ -336,6 +338,8 @@ impl<K: Key, V, S: BuildHasher> SparseSecondaryMap<K, V, S> {
     /// ensures listing { IsKeyListing (keyed self.now.pairs) result }
     /// ensures valid { IsSparseContent self.now }
     /// ```
+    ///
+    /// Words: [`IsKeyListing`](crate::words#iskeylisting), [`IsSparseContent`](crate::words#issparsecontent), [`keyed`](crate::words#keyed), [`pairs`](crate::words#pairs-of-slotmap_sparse-content).
     #[inline]
     pub fn keys(&self) -> Keys<'_, K, V>
     {
@@ -369,6 +373,8 @@ impl<K: Key, V, S: BuildHasher> SparseSecondaryMap<K, V, S> {
     /// ensures listing { IsValueListing (keyed self.now.pairs) result }
     /// ensures valid { IsSparseContent self.now }
     /// ```
+    ///
+    /// Words: [`IsSparseContent`](crate::words#issparsecontent), [`IsValueListing`](crate::words#isvaluelisting), [`keyed`](crate::words#keyed), [`pairs`](crate::words#pairs-of-slotmap_sparse-content).
     #[inline]
     pub fn values(&self) -> Values<'_, K, V>
     {

@@ -57,6 +57,8 @@ impl<K: Key, V: Sized, S: BuildHasher> SparseSecondaryMap<K, V, S> {
     ///
     /// ensures valid { IsSparseContent self.now }
     /// ```
+    ///
+    /// Words: [`ClonesEqual`](crate::words#clonesequal), [`get`](crate::words#get), [`IsCloneOf`](crate::words#iscloneof), [`IsSparseContent`](crate::words#issparsecontent), [`Key`](crate::words#key), [`keyed`](crate::words#keyed), [`pairs`](crate::words#pairs-of-slotmap_sparse-content), [`start_live`](crate::words#start_live), [`WritesSparse`](crate::words#writessparse), [`WritesSparseClones`](crate::words#writessparseclones).
     #[inline]
     pub fn to_slots(&self) -> Result<Vec<SlotRecord<V>>, OutOfMemory>
     where
@@ -147,6 +149,8 @@ impl<K: Key, V: Sized, S: BuildHasher> SparseSecondaryMap<K, V, S> {
     /// ensures accepted { IsOk result → Accepts list.items side_list_limit }
     /// ensures err { IfErr result (RefusesStart list.items side_list_limit) }
     /// ```
+    ///
+    /// Words: [`Accepts`](crate::words#accepts), [`IsSparseContent`](crate::words#issparsecontent), [`keyed`](crate::words#keyed), [`pairs`](crate::words#pairs-of-slotmap_sparse-content), [`RefusesStart`](crate::words#refusesstart), [`side_list_limit`](crate::words#side_list_limit), [`start_live`](crate::words#start_live).
     #[inline]
     pub fn from_slots_with_hasher(
         alloc: Global,
@@ -217,6 +221,8 @@ impl<K: Key, V: Sized> SparseSecondaryMap<K, V> {
     /// ensures accepted { IsOk result → Accepts list.items side_list_limit }
     /// ensures err { IfErr result (RefusesStart list.items side_list_limit) }
     /// ```
+    ///
+    /// Words: [`Accepts`](crate::words#accepts), [`IsSparseContent`](crate::words#issparsecontent), [`keyed`](crate::words#keyed), [`pairs`](crate::words#pairs-of-slotmap_sparse-content), [`RefusesStart`](crate::words#refusesstart), [`side_list_limit`](crate::words#side_list_limit), [`start_live`](crate::words#start_live).
     #[inline]
     pub fn from_slots(alloc: Global, list: Vec<SlotRecord<V>>) -> Result<Self, SlotsError>
     {

@@ -144,6 +144,8 @@ impl<K: Key, V: Sized> SparseSecondaryMap<K, V> {
     /// ensures empty { IfOk result (λ made. made.pairs ≡ map.empty) }
     /// ensures valid { IfOk result IsSparseContent }
     /// ```
+    ///
+    /// Words: [`IsSparseContent`](crate::words#issparsecontent), [`pairs`](crate::words#pairs-of-slotmap_sparse-content).
     #[inline]
     pub fn new(alloc: Global) -> Result<Self, ReserveError>
     {
@@ -181,6 +183,8 @@ impl<K: Key, V: Sized> SparseSecondaryMap<K, V> {
     /// ensures err { IfErr result (RefusesRoom capacity) }
     /// ensures valid { IfOk result IsSparseContent }
     /// ```
+    ///
+    /// Words: [`capacity`](crate::words#capacity-of-slotmap_sparse-content), [`IsSparseContent`](crate::words#issparsecontent), [`most_keys`](crate::words#most_keys), [`pairs`](crate::words#pairs-of-slotmap_sparse-content), [`RefusesRoom`](crate::words#refusesroom).
     #[inline]
     pub fn with_capacity(alloc: Global, capacity: usize) -> Result<Self, ReserveError>
     {
@@ -218,6 +222,8 @@ impl<K: Key, V: Sized, S: BuildHasher> SparseSecondaryMap<K, V, S> {
     /// ensures empty { IfOk result (λ made. made.pairs ≡ map.empty) }
     /// ensures valid { IfOk result IsSparseContent }
     /// ```
+    ///
+    /// Words: [`IsSparseContent`](crate::words#issparsecontent), [`pairs`](crate::words#pairs-of-slotmap_sparse-content).
     #[inline]
     pub fn with_hasher(alloc: Global, hash_builder: S) -> Result<Self, ReserveError>
     {
@@ -267,6 +273,8 @@ impl<K: Key, V: Sized, S: BuildHasher> SparseSecondaryMap<K, V, S> {
     /// ensures err { IfErr result (RefusesRoom capacity) }
     /// ensures valid { IfOk result IsSparseContent }
     /// ```
+    ///
+    /// Words: [`capacity`](crate::words#capacity-of-slotmap_sparse-content), [`IsSparseContent`](crate::words#issparsecontent), [`most_keys`](crate::words#most_keys), [`pairs`](crate::words#pairs-of-slotmap_sparse-content), [`RefusesRoom`](crate::words#refusesroom).
     #[inline]
     pub fn with_capacity_and_hasher(
         alloc: Global,
@@ -316,6 +324,8 @@ impl<K: Key, V: Sized, S: BuildHasher> SparseSecondaryMap<K, V, S> {
     /// ensures value { result ≡ map.len self.now.pairs }
     /// ensures valid { IsSparseContent self.now }
     /// ```
+    ///
+    /// Words: [`IsSparseContent`](crate::words#issparsecontent), [`pairs`](crate::words#pairs-of-slotmap_sparse-content).
     #[inline]
     pub fn len(&self) -> usize
     {
@@ -347,6 +357,8 @@ impl<K: Key, V: Sized, S: BuildHasher> SparseSecondaryMap<K, V, S> {
     /// ensures value { IsTrue result ↔ (map.len self.now.pairs ≡ 0) }
     /// ensures valid { IsSparseContent self.now }
     /// ```
+    ///
+    /// Words: [`IsSparseContent`](crate::words#issparsecontent), [`pairs`](crate::words#pairs-of-slotmap_sparse-content).
     #[inline]
     pub fn is_empty(&self) -> bool
     {
@@ -380,6 +392,8 @@ impl<K: Key, V: Sized, S: BuildHasher> SparseSecondaryMap<K, V, S> {
     /// ensures fits { map.len self.now.pairs ≤ result }
     /// ensures valid { IsSparseContent self.now }
     /// ```
+    ///
+    /// Words: [`capacity`](crate::words#capacity-of-slotmap_sparse-content), [`IsSparseContent`](crate::words#issparsecontent), [`pairs`](crate::words#pairs-of-slotmap_sparse-content).
     #[inline]
     pub fn capacity(&self) -> usize
     {
@@ -417,6 +431,8 @@ impl<K: Key, V: Sized, S: BuildHasher> SparseSecondaryMap<K, V, S> {
     /// ensures makes_room { MakesSparseRoom additional self.old result self.new }
     /// ensures valid { IsSparseContent self.new }
     /// ```
+    ///
+    /// Words: [`IsSparseContent`](crate::words#issparsecontent), [`MakesSparseRoom`](crate::words#makessparseroom).
     #[inline]
     pub fn reserve(&mut self, additional: usize) -> Result<(), ReserveError>
     {
@@ -456,6 +472,8 @@ impl<K: Key, V: Sized, S: BuildHasher> SparseSecondaryMap<K, V, S> {
     /// ensures makes_room { MakesSparseRoom additional self.old result self.new }
     /// ensures valid { IsSparseContent self.new }
     /// ```
+    ///
+    /// Words: [`IsSparseContent`](crate::words#issparsecontent), [`MakesSparseRoom`](crate::words#makessparseroom).
     #[inline]
     pub fn try_reserve(&mut self, additional: usize) -> Result<(), ReserveError>
     {

@@ -38,6 +38,8 @@ impl<K: Key, V: Sized, S: BuildHasher> SparseSecondaryMap<K, V, S> {
     /// ensures room { room self.old ≤ room self.new }
     /// ensures valid { IsSparseContent self.new }
     /// ```
+    ///
+    /// Words: [`get`](crate::words#get), [`IsSparseContent`](crate::words#issparsecontent), [`pairs`](crate::words#pairs-of-slotmap_sparse-content), [`remove`](crate::words#remove), [`room`](crate::words#room-of-slotmap_sparse-content).
     #[inline(always)]
     pub fn remove(&mut self, key: K) -> Option<V>
     {

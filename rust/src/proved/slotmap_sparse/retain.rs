@@ -46,6 +46,8 @@ impl<K: Key, V: Sized, S: BuildHasher> SparseSecondaryMap<K, V, S> {
     /// ensures room { room self.old ≤ room self.new }
     /// ensures valid { IsSparseContent self.new }
     /// ```
+    ///
+    /// Words: [`CallableOnEach`](crate::words#callableoneach), [`IsSparseContent`](crate::words#issparsecontent), [`keyed`](crate::words#keyed), [`pairs`](crate::words#pairs-of-slotmap_sparse-content), [`RetainsBy`](crate::words#retainsby), [`room`](crate::words#room-of-slotmap_sparse-content).
     #[inline]
     pub fn retain<F: FnMut(K, &mut V) -> bool>(&mut self, mut f: F)
     where

@@ -37,6 +37,8 @@ pub trait Listed: Sized {
     /// ensures reads { IfOk result (λ made. lists.reads list.items made) }
     /// ensures err { IfErr result (lists.refuses list.items) }
     /// ```
+    ///
+    /// Words: [`reads`](crate::words#reads-of-slotmap_hop-iter).
     fn from_slots(alloc: Global, list: Vec<SlotRecord<i32>>) -> Result<Self, SlotsError>;
 }
 

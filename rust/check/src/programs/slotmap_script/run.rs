@@ -202,6 +202,8 @@ fn run_hop<R: Read, W: Write>(alloc: Global, input: &mut R, output: &mut W) -> R
 /// ensures err { IfErr result (StopsRun (kind_of C.command_of C.replies_to M.lists (λ map. IsNew (M.content map)))
 ///     (R.remaining input.old) (Appends (W.contents output.old) (W.contents output.new))) }
 /// ```
+///
+/// Words: [`content`](crate::words#content-of-slotmap_dense-dense), [`IsNew`](crate::words#isnew).
 pub fn run_on<M, C, R, W>(alloc: Global, input: &mut R, output: &mut W) -> Result<(), Stop>
 where
     M: Primary<DefaultKey, i32> + Listed,

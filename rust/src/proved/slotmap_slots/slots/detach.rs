@@ -20,6 +20,8 @@ impl<P, L: Layout<P>> Slots<P, L> {
     /// ensures live { self.new.live ≡ map.remove self.old.live key }
     /// ensures valid { StaysValid true self.old self.new }
     /// ```
+    ///
+    /// Words: [`Detaches`](crate::words#detaches), [`live`](crate::words#live), [`StaysValid`](crate::words#staysvalid).
     #[inline]
     pub fn detach(&mut self, key: KeyData) -> Option<P>
     {
@@ -47,6 +49,8 @@ impl<P, L: Layout<P>> Slots<P, L> {
     /// ensures value { result ≡ set.contains self.now.detached key }
     /// ensures valid { IsContent true self.now }
     /// ```
+    ///
+    /// Words: [`IsContent`](crate::words#iscontent).
     #[inline]
     pub fn is_detached(&self, key: KeyData) -> bool
     {
@@ -69,6 +73,8 @@ impl<P, L: Layout<P>> Slots<P, L> {
     /// ensures reattaches { Reattaches self.old key payload self.new }
     /// ensures valid { StaysValid true self.old self.new }
     /// ```
+    ///
+    /// Words: [`IsDetached`](crate::words#isdetached), [`Reattaches`](crate::words#reattaches), [`StaysValid`](crate::words#staysvalid).
     #[inline]
     pub fn reattach(&mut self, key: KeyData, payload: P)
     where
