@@ -34,9 +34,12 @@ import sys
 
 from eraser import closed, contracts, drops, errors, paths, requires, sealed
 from eraser.attributes import take_attributes
-from eraser.documents import documented, examples
+from eraser.clauses import macro
+from eraser.documents import documented
+from eraser.examples import examples
 from eraser.project import IN_SHIM, LENT, LIBRARIES, LIBRARY_TREE, PATCHES, PROGRAM_TREE, PROGRAMS, TOP, files_of, refuse_unknown_crates
 from eraser.tokens import Bad, Edits
+from eraser.word_page import page
 
 PRELUDE = "#[allow(unused_imports)]\nuse crate::rt::prelude::*;"
 
@@ -89,6 +92,7 @@ def generated(crates):
         for file in files:
             found[file.target] = tell_place(file, lambda: head_of(file) + erased(file, types))
     found[f"{LIBRARY_TREE}/mod.rs"] = modules_of_libraries()
+    found["rust/src/clauses.rs"], found["rust/src/words.md"] = macro(), page()
     return found
 
 
@@ -147,7 +151,7 @@ def names_in_shim(file):
 def finished(file, text, impls):
     """The text with its docs, its prelude, its impls and its patches."""
     requires.HERE[0] = (file.crate, file.path)
-    text = examples(documented(text, file.crate))
+    text = examples(documented(text, file.crate), file.crate)
     head = re.match(r"(?:\s*//!.*\n)*", text).end()
     text = f"{text[:head]}\n{PRELUDE}\n{text[head:]}" if head else f"{PRELUDE}\n\n{text}"
     text = "\n".join([text.rstrip("\n") + "\n", *impls])

@@ -1,52 +1,43 @@
-"""Doc comments: clauses and examples."""
+"""Doc comments: the clauses of a function go below what it says of itself."""
 import re
-from .requires import test_of
-from .tokens import *
+
+from .clauses import section_of
+from .requires import HERE, test_of
+from .tokens import Bad
+
+FUNCTION = re.compile(r"(\s*)(pub(?:\([^)]*\))? )?(?:const )?fn (\w+)")
+
+
+def header_of(lines):
+    """Where the function begins whose clauses come after these lines, or None if they are those of a closure in its body."""
+    for number in range(len(lines) - 1, -1, -1):
+        if FUNCTION.match(lines[number]): return number
+        if lines[number].rstrip().endswith("{") or lines[number].strip() == "}": return None
+    return None
+
+
+def document(out, number, clauses):
+    """Puts the section of a function below its comment, if it has one."""
+    pad, _, name = FUNCTION.match(out[number]).groups()
+    while number > 0 and re.match(r"\s*#\[", out[number - 1]): number -= 1
+    if number == 0 or not out[number - 1].lstrip().startswith("///"): return
+    lines = section_of(*HERE[0], name, clauses)
+    if lines is None: raise Bad(f"the clauses of {name} aren't in the source")
+    out[number:number] = [f"{pad}/// {it}".rstrip() for it in ["", *lines]]
+
 
 def documented(text, crate):
     """Moves the clauses of each function into its rustdoc, or drops them where there is none."""
-    lines, out = text.split("\n"), []
-    test = None
-    for line in lines:
+    out, test = [], None
+    for line in text.split("\n"):
         if test and line.strip() == "{":
             out += [line, line[:-1] + "    " + test]; test = None
             continue
-        found = re.findall("\x01(.*?)\x02", line.replace("\x03", "\n"), re.S)
-        line = re.sub("\x01.*?\x02", "", line)
-        if not found: out.append(line); continue
-        bare = line.rstrip()
-        up = len(out)
-        while up > 0 and not re.match(r"\s*(pub(\([^)]*\))? )?(const )?fn \w+", (out + [bare])[up]): up -= 1
-        test = test_of(found, crate, re.match(r"\s*pub fn", (out + [bare])[up]) is not None)
-        if test and bare.endswith("{"): raise Bad("a test has no place")
-        # back to the function's header
-        at = len(out)
-        out.append(bare)
-        depth = 0
-        i = at
-        while i >= 0 and not re.match(r"\s*(pub(\([^)]*\))? )?(const )?fn \w+", out[i]): i -= 1
-        if i < 0: continue
-        j = i
-        while j > 0 and re.match(r"\s*#\[", out[j - 1]): j -= 1
-        if j > 0 and out[j - 1].lstrip().startswith("///"):
-            pad = re.match(r"\s*", out[i]).group()
-            doc = [f"{pad}///", f"{pad}/// # Proved", f"{pad}///", f"{pad}/// ```text"]
-            for clause in found:
-                doc.append(f"{pad}/// " + re.sub(r"\s+", " ", clause).strip())
-            doc.append(f"{pad}/// ```")
-            out[j:j] = doc
-    return "\n".join(out)
-
-def examples(text):
-    """The code of comments: Rattle's macros lose their handle; it is shown, not run."""
-    out, inside = [], False
-    for line in text.split("\n"):
-        m = re.match(r"(\s*//[/!] ?)```(\w*)$", line)
-        if m:
-            if not inside and m[2] == "": line = m[1] + "```ignore"
-            inside = not inside
-        elif inside and re.match(r"\s*//[/!]", line):
-            line = re.sub(r"\b(assert\w*|println|print|eprintln)!\(rt; ", r"\1!(", line)
-            line = re.sub(r"\b(format|vec|json)!([\(\[])in alloc; ", r"\1!\2", line)
-        out.append(line)
+        clauses = re.findall("\x01(.*?)\x02", line.replace("\x03", "\n"), re.S)
+        out.append(re.sub("\x01.*?\x02", "", line).rstrip() if clauses else line)
+        number = header_of(out) if clauses else None
+        if number is None: continue
+        test = test_of(clauses, crate, FUNCTION.match(out[number])[2] == "pub ")
+        if test and out[-1].endswith("{"): raise Bad("a test has no place")
+        document(out, number, clauses)
     return "\n".join(out)

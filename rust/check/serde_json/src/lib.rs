@@ -71,15 +71,25 @@ macro_rules! whole {
 }
 whole!(u8 u16 u32 u64 i32 i64 usize);
 
+impl From<bool> for Value {
+    fn from(truth: bool) -> Value {
+        Value::Bool(truth)
+    }
+}
+
 impl From<Vec<Value>> for Value {
     fn from(values: Vec<Value>) -> Value {
         Value::Array(values)
     }
 }
 
-/// An object, or any value that `From` makes.
+/// An array, an object, or any value that `From` makes.
 #[macro_export]
 macro_rules! json {
+    ([$($value:tt),*]) => { $crate::Value::Array(vec![$($crate::json!($value)),*]) };
+    ({$($name:literal: $value:tt),*}) => {
+        $crate::Value::object(vec![$(($name.to_string(), $crate::json!($value))),*])
+    };
     ({$($name:literal: $value:expr),* $(,)?}) => {
         $crate::Value::object(vec![$(($name.to_string(), $crate::Value::from($value))),*])
     };

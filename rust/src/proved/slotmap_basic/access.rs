@@ -15,11 +15,20 @@ impl<K: Key, V> SlotMap<K, V> {
     /// A removed or detached key isn't live, nor is the null key. A key of another map is live here
     /// only if this map has a live key of the same index and version. Constant time.
     ///
-    /// ```ignore
+    /// ```
+    /// # use slotmap_proved::{DefaultKey, Global, Key};
+    /// # use slotmap_proved::fallible::SlotMap;
+    /// # fn main() -> Result<(), Box<dyn std::error::Error>> {
+    /// # let alloc = Global;
+    /// # let mut map: SlotMap<DefaultKey, u64> = SlotMap::new(alloc)?;
+    /// # let a = map.insert(1)?;
+    /// # let b = map.insert(2)?;
     /// assert!(map.contains_key(a));
     /// map.remove(a);
     /// assert!(!map.contains_key(a));
     /// assert!(!map.contains_key(DefaultKey::null()));
+    /// # Ok(())
+    /// # }
     /// ```
     ///
     /// # Proved
@@ -28,6 +37,8 @@ impl<K: Key, V> SlotMap<K, V> {
     /// ensures value { result ≡ map.contains_key self.now.live (K.data_of key) }
     /// ensures valid { IsContent true self.now }
     /// ```
+    ///
+    /// Words: [`IsContent`](crate::words#iscontent), [`live`](crate::words#live).
     #[inline]
     pub fn contains_key(&self, key: K) -> bool {
         self.slots.contains_key(key.data())
@@ -37,10 +48,19 @@ impl<K: Key, V> SlotMap<K, V> {
     ///
     /// Constant time.
     ///
-    /// ```ignore
+    /// ```
+    /// # use slotmap_proved::{DefaultKey, Global, Key};
+    /// # use slotmap_proved::fallible::SlotMap;
+    /// # fn main() -> Result<(), Box<dyn std::error::Error>> {
+    /// # let alloc = Global;
+    /// # let mut map: SlotMap<DefaultKey, u64> = SlotMap::new(alloc)?;
+    /// # let a = map.insert(1)?;
+    /// # let b = map.insert(2)?;
     /// assert_eq!(map.get(b), Some(&2));
     /// map.remove(b);
     /// assert_eq!(map.get(b), None);
+    /// # Ok(())
+    /// # }
     /// ```
     ///
     /// # Proved
@@ -49,6 +69,8 @@ impl<K: Key, V> SlotMap<K, V> {
     /// ensures value { option_copied result ≡ map.get self.now.live (K.data_of key) }
     /// ensures valid { IsContent true self.now }
     /// ```
+    ///
+    /// Words: [`IsContent`](crate::words#iscontent), [`live`](crate::words#live).
     #[inline]
     pub fn get(&self, key: K) -> Option<&V> {
         self.slots.get(key.data())
@@ -59,8 +81,17 @@ impl<K: Key, V> SlotMap<K, V> {
     /// The contract requires that the key is live. So this call is safe; Rust's is `unsafe`.
     /// Constant time.
     ///
-    /// ```ignore
+    /// ```
+    /// # use slotmap_proved::{DefaultKey, Global, Key};
+    /// # use slotmap_proved::fallible::SlotMap;
+    /// # fn main() -> Result<(), Box<dyn std::error::Error>> {
+    /// # let alloc = Global;
+    /// # let mut map: SlotMap<DefaultKey, u64> = SlotMap::new(alloc)?;
+    /// # let a = map.insert(1)?;
+    /// # let b = map.insert(2)?;
     /// assert_eq!(*map.get_unchecked(a), 1);
+    /// # Ok(())
+    /// # }
     /// ```
     ///
     /// # Proved
@@ -70,6 +101,8 @@ impl<K: Key, V> SlotMap<K, V> {
     /// ensures value { map.get self.now.live (K.data_of key) ≡ Some result.now }
     /// ensures valid { IsContent true self.now }
     /// ```
+    ///
+    /// Words: [`IsContent`](crate::words#iscontent), [`IsLive`](crate::words#islive), [`live`](crate::words#live).
     #[inline]
     pub fn get_unchecked(&self, key: K) -> &V {
         assert!(self.contains_key(key), "the key is not live");
@@ -81,11 +114,20 @@ impl<K: Key, V> SlotMap<K, V> {
     /// Once the reference ends, the key has the last value written through it. All else is as
     /// before. Constant time.
     ///
-    /// ```ignore
+    /// ```
+    /// # use slotmap_proved::{DefaultKey, Global, Key};
+    /// # use slotmap_proved::fallible::SlotMap;
+    /// # fn main() -> Result<(), Box<dyn std::error::Error>> {
+    /// # let alloc = Global;
+    /// # let mut map: SlotMap<DefaultKey, u64> = SlotMap::new(alloc)?;
+    /// # let a = map.insert(1)?;
+    /// # let b = map.insert(2)?;
     /// if let Some(value) = map.get_mut(a) {
     ///     *value = 5;
     /// }
     /// assert_eq!(map.get(a), Some(&5));
+    /// # Ok(())
+    /// # }
     /// ```
     ///
     /// # Proved
@@ -95,6 +137,8 @@ impl<K: Key, V> SlotMap<K, V> {
     /// ensures value { option_copied_mut result ≡ map.get self.old.live (K.data_of key) }
     /// ensures valid { IsContent true self.old }
     /// ```
+    ///
+    /// Words: [`IsContent`](crate::words#iscontent), [`lends_get`](crate::words#lends_get-of-slotmap_basic-lends), [`live`](crate::words#live).
     #[inline]
     pub fn get_mut(&mut self, key: K) -> Option<&mut V> {
         if self.contains_key(key) {
@@ -109,9 +153,18 @@ impl<K: Key, V> SlotMap<K, V> {
     /// The contract requires that the key is live. So this call is safe; Rust's is `unsafe`.
     /// Constant time.
     ///
-    /// ```ignore
+    /// ```
+    /// # use slotmap_proved::{DefaultKey, Global, Key};
+    /// # use slotmap_proved::fallible::SlotMap;
+    /// # fn main() -> Result<(), Box<dyn std::error::Error>> {
+    /// # let alloc = Global;
+    /// # let mut map: SlotMap<DefaultKey, u64> = SlotMap::new(alloc)?;
+    /// # let a = map.insert(1)?;
+    /// # let b = map.insert(2)?;
     /// *map.get_unchecked_mut(a) = 5;
     /// assert_eq!(map.get(a), Some(&5));
+    /// # Ok(())
+    /// # }
     /// ```
     ///
     /// # Proved
@@ -122,6 +175,8 @@ impl<K: Key, V> SlotMap<K, V> {
     /// ensures value { map.get self.old.live (K.data_of key) ≡ Some result.now }
     /// ensures valid { IsContent true self.old }
     /// ```
+    ///
+    /// Words: [`IsContent`](crate::words#iscontent), [`IsLive`](crate::words#islive), [`lends_value`](crate::words#lends_value-of-slotmap_basic-lends), [`live`](crate::words#live).
     #[inline]
     pub fn get_unchecked_mut(&mut self, key: K) -> &mut V {
         assert!(self.contains_key(key), "the key is not live");
@@ -133,10 +188,19 @@ impl<K: Key, V> SlotMap<K, V> {
     /// If the key isn't live, nothing changes, and the new value is returned as the error. Constant
     /// time. Rust lacks this call.
     ///
-    /// ```ignore
+    /// ```
+    /// # use slotmap_proved::{DefaultKey, Global, Key};
+    /// # use slotmap_proved::fallible::SlotMap;
+    /// # fn main() -> Result<(), Box<dyn std::error::Error>> {
+    /// # let alloc = Global;
+    /// # let mut map: SlotMap<DefaultKey, u64> = SlotMap::new(alloc)?;
+    /// # let a = map.insert(1)?;
+    /// # let b = map.insert(2)?;
     /// assert_eq!(map.replace(a, 5), Ok(1));
     /// map.remove(a);
     /// assert_eq!(map.replace(a, 6), Err(6));
+    /// # Ok(())
+    /// # }
     /// ```
     ///
     /// # Proved
@@ -148,6 +212,8 @@ impl<K: Key, V> SlotMap<K, V> {
     /// ensures unchanged { OnErr result (self.new ≡ self.old) }
     /// ensures valid { StaysValid true self.old self.new }
     /// ```
+    ///
+    /// Words: [`IsLive`](crate::words#islive), [`live`](crate::words#live), [`StaysValid`](crate::words#staysvalid), [`with_value`](crate::words#with_value-of-slotmap_core-transition).
     #[inline]
     pub fn replace(&mut self, key: K, value: V) -> Result<V, V> {
         match self.get_mut(key) {
@@ -163,21 +229,19 @@ impl<K: Key, V> SlotMap<K, V> {
     /// Its time doesn't depend on the size of the map. In Rust `get_disjoint_mut` returns
     /// references instead.
     ///
-    /// ```ignore
+    /// ```
+    /// # use slotmap_proved::{DefaultKey, Global, Key};
+    /// # use slotmap_proved::fallible::SlotMap;
+    /// # fn main() -> Result<(), Box<dyn std::error::Error>> {
+    /// # let alloc = Global;
+    /// # let mut map: SlotMap<DefaultKey, u64> = SlotMap::new(alloc)?;
+    /// # let a = map.insert(1)?;
+    /// # let b = map.insert(2)?;
     /// assert_eq!(map.replace_disjoint([a, b], [5, 6]), Ok([1, 2]));
     /// assert_eq!(map.get(b), Some(&6));
     /// assert_eq!(map.replace_disjoint([a, a], [7, 8]), Err([7, 8]));
-    /// ```
-    ///
-    /// # Proved
-    ///
-    /// ```text
-    /// ensures which { IsOk result ↔ CanReplace self.old (map_list K.data_of keys) }
-    /// ensures value { IfOk result (AreValuesOf self.old (map_list K.data_of keys)) }
-    /// ensures ok { OnOk result (self.new ≡ with_values self.old (map_list K.data_of keys) values) }
-    /// ensures err { IfErr result (λ given. given ≡ values) }
-    /// ensures unchanged { OnErr result (self.new ≡ self.old) }
-    /// ensures valid { StaysValid true self.old self.new }
+    /// # Ok(())
+    /// # }
     /// ```
     #[inline]
     pub fn replace_disjoint<const N: usize>(
@@ -221,8 +285,17 @@ impl<K: Key, V> Index<K> for SlotMap<K, V> {
     ///
     /// The contract requires that the key is live; in Rust any other key panics. Constant time.
     ///
-    /// ```ignore
+    /// ```
+    /// # use slotmap_proved::{DefaultKey, Global, Key};
+    /// # use slotmap_proved::fallible::SlotMap;
+    /// # fn main() -> Result<(), Box<dyn std::error::Error>> {
+    /// # let alloc = Global;
+    /// # let mut map: SlotMap<DefaultKey, u64> = SlotMap::new(alloc)?;
+    /// # let a = map.insert(1)?;
+    /// # let b = map.insert(2)?;
     /// assert_eq!(map[a] + map[b], 3);
+    /// # Ok(())
+    /// # }
     /// ```
     #[inline]
     fn index(&self, key: K) -> &V {
@@ -236,9 +309,18 @@ impl<K: Key, V> IndexMut<K> for SlotMap<K, V> {
     ///
     /// The contract requires that the key is live; in Rust any other key panics. Constant time.
     ///
-    /// ```ignore
+    /// ```
+    /// # use slotmap_proved::{DefaultKey, Global, Key};
+    /// # use slotmap_proved::fallible::SlotMap;
+    /// # fn main() -> Result<(), Box<dyn std::error::Error>> {
+    /// # let alloc = Global;
+    /// # let mut map: SlotMap<DefaultKey, u64> = SlotMap::new(alloc)?;
+    /// # let a = map.insert(1)?;
+    /// # let b = map.insert(2)?;
     /// map[a] = 5;
     /// assert_eq!(map.get(a), Some(&5));
+    /// # Ok(())
+    /// # }
     /// ```
     ///
     /// # Proved
@@ -249,6 +331,8 @@ impl<K: Key, V> IndexMut<K> for SlotMap<K, V> {
     /// ensures value { map.get self.old.live (K.data_of key) ≡ Some result.now }
     /// ensures valid { IsContent true self.old }
     /// ```
+    ///
+    /// Words: [`IsContent`](crate::words#iscontent), [`IsLive`](crate::words#islive), [`lends_value`](crate::words#lends_value-of-slotmap_basic-lends), [`live`](crate::words#live).
     #[inline]
     fn index_mut(&mut self, key: K) -> &mut V {
         assert!(self.contains_key(key), "the key is not live");

@@ -14,10 +14,19 @@ impl<K: Key, V> SlotMap<K, V> {
     /// The keys are removed as `remove` does, and the capacity stays. Detached keys stay detached.
     /// Linear in the number of slots.
     ///
-    /// ```ignore
+    /// ```
+    /// # use slotmap_proved::{DefaultKey, Global, Key};
+    /// # use slotmap_proved::fallible::SlotMap;
+    /// # fn main() -> Result<(), Box<dyn std::error::Error>> {
+    /// # let alloc = Global;
+    /// # let mut map: SlotMap<DefaultKey, u64> = SlotMap::new(alloc)?;
+    /// # let a = map.insert(1)?;
+    /// # let b = map.insert(2)?;
     /// map.clear();
     /// assert!(map.is_empty());
     /// assert!(!map.contains_key(a));
+    /// # Ok(())
+    /// # }
     /// ```
     ///
     /// # Proved
@@ -28,6 +37,8 @@ impl<K: Key, V> SlotMap<K, V> {
     /// ensures freed_order { FreesByIndex self.old self.new }
     /// ensures valid { StaysValid true self.old self.new }
     /// ```
+    ///
+    /// Words: [`FreesByIndex`](crate::words#freesbyindex), [`Leaves`](crate::words#leaves), [`live`](crate::words#live), [`StaysValid`](crate::words#staysvalid).
     #[inline]
     pub fn clear(&mut self) {
         self.clear_from(0);
@@ -38,20 +49,32 @@ impl<K: Key, V> SlotMap<K, V> {
     /// Room for all keys is allocated first. If that fails, `out` doesn't change. Linear in the number
     /// of slots, and in the length of `out` if it has to grow. Rust lacks this call.
     ///
-    /// ```ignore
+    /// ```
+    /// # use slotmap_proved::{DefaultKey, Global, Key};
+    /// # use slotmap_proved::fallible::{SlotMap, Vec};
+    /// # fn main() -> Result<(), Box<dyn std::error::Error>> {
+    /// # let alloc = Global;
+    /// # let mut map: SlotMap<DefaultKey, u64> = SlotMap::new(alloc)?;
+    /// # let a = map.insert(1)?;
+    /// # let b = map.insert(2)?;
     /// let mut keys = Vec::new(alloc);
     /// map.keys_into(&mut keys)?;
     /// assert_eq!(keys.len(), 2);
     /// assert_eq!(keys[0], a);
+    /// # Ok(())
+    /// # }
     /// ```
     ///
     /// # Proved
     ///
     /// ```text
-    /// ensures ok { OnOk result ((keys : List K) × (out.new.items ≡ out.old.items ++ keys) × (list_map K.data_of keys ≡ map.keys self.now.live)) }
+    /// ensures ok { OnOk result ((keys : List K) × (out.new.items ≡ out.old.items ++ keys)
+    ///     × (list_map K.data_of keys ≡ map.keys self.now.live)) }
     /// ensures unchanged { OnErr result (out.new.items ≡ out.old.items) }
     /// ensures valid { IsContent true self.now }
     /// ```
+    ///
+    /// Words: [`IsContent`](crate::words#iscontent), [`live`](crate::words#live).
     #[inline]
     pub fn keys_into(&self, out: &mut Vec<K>) -> Result<(), OutOfMemory> {
         out.reserve(self.len())?;
@@ -67,23 +90,36 @@ impl<K: Key, V> SlotMap<K, V> {
     /// is allocated first. If that fails, neither the map nor `out` changes. Linear in the number of
     /// slots, and in the length of `out` if it has to grow. Rust lacks this call.
     ///
-    /// ```ignore
+    /// ```
+    /// # use slotmap_proved::{DefaultKey, Global, Key};
+    /// # use slotmap_proved::fallible::{SlotMap, Vec};
+    /// # fn main() -> Result<(), Box<dyn std::error::Error>> {
+    /// # let alloc = Global;
+    /// # let mut map: SlotMap<DefaultKey, u64> = SlotMap::new(alloc)?;
+    /// # let a = map.insert(1)?;
+    /// # let b = map.insert(2)?;
     /// let mut pairs = Vec::new(alloc);
     /// map.drain_into(&mut pairs)?;
     /// assert_eq!(pairs[1], (b, 2));
     /// assert!(map.is_empty());
+    /// # Ok(())
+    /// # }
     /// ```
     ///
     /// # Proved
     ///
     /// ```text
-    /// ensures ok { OnOk result ((pairs : List (K × V)) × (out.new.items ≡ out.old.items ++ pairs) × (list_map (λ p. (K.data_of p.0, p.1)) pairs ≡ map.entries self.old.live)) }
+    /// ensures ok { OnOk result ((pairs : List (K × V)) × (out.new.items ≡ out.old.items ++ pairs)
+    ///     × (list_map (λ p. (K.data_of p.0, p.1)) pairs ≡ map.entries self.old.live)) }
     /// ensures empty { OnOk result (self.new.live ≡ map.empty) }
     /// ensures leaves { OnOk result (Leaves self.old self.new) }
     /// ensures freed_order { OnOk result (FreesByIndex self.old self.new) }
+    ///
     /// ensures unchanged { OnErr result ((self.new ≡ self.old) × (out.new.items ≡ out.old.items)) }
     /// ensures valid { StaysValid true self.old self.new }
     /// ```
+    ///
+    /// Words: [`FreesByIndex`](crate::words#freesbyindex), [`Leaves`](crate::words#leaves), [`live`](crate::words#live), [`StaysValid`](crate::words#staysvalid).
     #[inline]
     pub fn drain_into(&mut self, out: &mut Vec<(K, V)>) -> Result<(), OutOfMemory> {
         out.reserve(self.len())?;

@@ -20,11 +20,20 @@ impl<K: Key, V: Clone> SlotMap<K, V> {
     /// If memory runs out, or the clone of a value fails, the call fails, and what was copied is
     /// dropped. Linear in the number of slots.
     ///
-    /// ```ignore
+    /// ```
+    /// # use slotmap_proved::{DefaultKey, Global, Key};
+    /// # use slotmap_proved::fallible::SlotMap;
+    /// # fn main() -> Result<(), Box<dyn std::error::Error>> {
+    /// # let alloc = Global;
+    /// # let mut map: SlotMap<DefaultKey, u64> = SlotMap::new(alloc)?;
+    /// # let a = map.insert(1)?;
+    /// # let b = map.insert(2)?;
     /// let mut copy = map.clone()?;
     /// copy.remove(a);
     /// assert_eq!(copy.get(b), Some(&2));
     /// assert_eq!(map.get(a), Some(&1));
+    /// # Ok(())
+    /// # }
     /// ```
     ///
     /// # Proved
@@ -34,6 +43,8 @@ impl<K: Key, V: Clone> SlotMap<K, V> {
     /// ensures copies_if_clones_equal { IfOk result (λ copy. ClonesEqual V.is_clone → IsCopy self.now copy) }
     /// ensures valid { IfOk result (IsContent true) }
     /// ```
+    ///
+    /// Words: [`ClonesEqual`](crate::words#clonesequal), [`IsCloneBy`](crate::words#iscloneby), [`IsContent`](crate::words#iscontent), [`IsCopy`](crate::words#iscopy).
     #[inline]
     pub fn clone(&self) -> Result<Self, AllocError> {
         Ok(SlotMap::over(self.slots.copy()?))
@@ -45,11 +56,20 @@ impl<K: Key, V: Clone> SlotMap<K, V> {
     /// copy is made before the old content is dropped. So if the call fails, as `clone` can, the
     /// map stays as it was. At most linear in the number of slots of both maps.
     ///
-    /// ```ignore
+    /// ```
+    /// # use slotmap_proved::{DefaultKey, Global, Key};
+    /// # use slotmap_proved::fallible::SlotMap;
+    /// # fn main() -> Result<(), Box<dyn std::error::Error>> {
+    /// # let alloc = Global;
+    /// # let mut map: SlotMap<DefaultKey, u64> = SlotMap::new(alloc)?;
+    /// # let a = map.insert(1)?;
+    /// # let b = map.insert(2)?;
     /// let mut copy: SlotMap<DefaultKey, u64> = SlotMap::new(alloc)?;
     /// copy.clone_from(&map)?;
     /// assert_eq!(copy.get(a), Some(&1));
     /// assert_eq!(copy.len(), map.len());
+    /// # Ok(())
+    /// # }
     /// ```
     ///
     /// # Proved
@@ -60,6 +80,8 @@ impl<K: Key, V: Clone> SlotMap<K, V> {
     /// ensures unchanged { OnErr result (self.new ≡ self.old) }
     /// ensures valid { OnOk result (IsContent true self.new) }
     /// ```
+    ///
+    /// Words: [`ClonesEqual`](crate::words#clonesequal), [`IsCloneBy`](crate::words#iscloneby), [`IsContent`](crate::words#iscontent), [`IsCopy`](crate::words#iscopy).
     #[inline]
     pub fn clone_from(&mut self, source: &Self) -> Result<(), AllocError>
     where

@@ -16,11 +16,20 @@ impl<K: Key, V> SlotMap<K, V> {
     /// binds it to a value again. `clear`, `drain` and `retain` leave it detached. Detaching
     /// retires no slot and allocates nothing. Constant time.
     ///
-    /// ```ignore
+    /// ```
+    /// # use slotmap_proved::{DefaultKey, Global, Key};
+    /// # use slotmap_proved::fallible::SlotMap;
+    /// # fn main() -> Result<(), Box<dyn std::error::Error>> {
+    /// # let alloc = Global;
+    /// # let mut map: SlotMap<DefaultKey, u64> = SlotMap::new(alloc)?;
+    /// # let a = map.insert(1)?;
+    /// # let b = map.insert(2)?;
     /// assert_eq!(map.detach(a), Some(1));
     /// assert_eq!(map.get(a), None);
     /// map.reattach(a, 6)?;
     /// assert_eq!(map.get(a), Some(&6));
+    /// # Ok(())
+    /// # }
     /// ```
     ///
     /// # Proved
@@ -32,6 +41,8 @@ impl<K: Key, V> SlotMap<K, V> {
     /// ensures live { self.new.live ≡ map.remove self.old.live (K.data_of key) }
     /// ensures valid { StaysValid true self.old self.new }
     /// ```
+    ///
+    /// Words: [`Detaches`](crate::words#detaches), [`live`](crate::words#live), [`StaysValid`](crate::words#staysvalid).
     #[inline]
     pub fn detach(&mut self, key: K) -> Option<V> {
         self.slots.detach(key.data())
@@ -42,21 +53,33 @@ impl<K: Key, V> SlotMap<K, V> {
     /// If the key isn't detached, nothing changes, and the error `NotDetached` holds the value;
     /// Rust panics. The call allocates nothing, so it never fails with `Memory`. Constant time.
     ///
-    /// ```ignore
+    /// ```
+    /// # use slotmap_proved::{DefaultKey, Global, Key, ReattachError};
+    /// # use slotmap_proved::fallible::SlotMap;
+    /// # fn main() -> Result<(), Box<dyn std::error::Error>> {
+    /// # let alloc = Global;
+    /// # let mut map: SlotMap<DefaultKey, u64> = SlotMap::new(alloc)?;
+    /// # let a = map.insert(1)?;
+    /// # let b = map.insert(2)?;
     /// map.detach(a);
     /// map.reattach(a, 5)?;
     /// assert_eq!(map.get(a), Some(&5));
     /// assert!(matches!(map.reattach(b, 6), Err(ReattachError::NotDetached(6))));
+    /// # Ok(())
+    /// # }
     /// ```
     ///
     /// # Proved
     ///
     /// ```text
     /// ensures ok { OnOk result (Reattaches self.old (K.data_of key) value self.new) }
-    /// ensures err { IfErr result (λ error. (error ≡ ReattachError.NotDetached value) × (IsDetached self.old (K.data_of key) → ⊥)) }
+    /// ensures err { IfErr result (λ error. (error ≡ ReattachError.NotDetached value)
+    ///     × (IsDetached self.old (K.data_of key) → ⊥)) }
     /// ensures unchanged { OnErr result (self.new ≡ self.old) }
     /// ensures valid { StaysValid true self.old self.new }
     /// ```
+    ///
+    /// Words: [`IsDetached`](crate::words#isdetached), [`Reattaches`](crate::words#reattaches), [`StaysValid`](crate::words#staysvalid).
     #[inline]
     pub fn reattach(&mut self, key: K, value: V) -> Result<(), ReattachError<V>> {
         if !self.slots.is_detached(key.data()) {

@@ -72,13 +72,22 @@ impl<K: Key, V> SlotMap<K, V> {
     /// removes the remaining keys too. Detached keys stay detached. All steps and the drop together
     /// are linear in the number of slots.
     ///
-    /// ```ignore
+    /// ```
+    /// # use slotmap_proved::{DefaultKey, Global, Key};
+    /// # use slotmap_proved::fallible::SlotMap;
+    /// # fn main() -> Result<(), Box<dyn std::error::Error>> {
+    /// # let alloc = Global;
+    /// # let mut map: SlotMap<DefaultKey, u64> = SlotMap::new(alloc)?;
+    /// # let a = map.insert(1)?;
+    /// # let b = map.insert(2)?;
     /// let mut sum = 0;
     /// for (_, value) in map.drain() {
     ///     sum += value;
     /// }
     /// assert_eq!(sum, 3);
     /// assert!(map.is_empty());
+    /// # Ok(())
+    /// # }
     /// ```
     ///
     /// # Proved
@@ -87,12 +96,16 @@ impl<K: Key, V> SlotMap<K, V> {
     /// ensures map { (drain_loan result).now ≡ self.old }
     /// ensures same_reference { (drain_loan result).ghost_name ≡ self.entry.ghost_name }
     /// ensures ready { DrainCanStep result }
+    ///
     /// // Laws of the steps, for callers that take more of them.
     /// ensures stays { KeepsAlong (DrainSteps K.data_of) (KeepsLoan drain_loan EmptiesByIndex) result }
     /// ensures lists { ListsAlong K.data_of drain_live (DrainSteps K.data_of) result }
     /// ensures in_order { InOrderAlong K.data_of drain_live (DrainSteps K.data_of) result }
+    ///
     /// ensures valid { IsContent true self.old }
     /// ```
+    ///
+    /// Words: [`drain_live`](crate::words#drain_live), [`drain_loan`](crate::words#drain_loan-of-slotmap_basic-drain), [`DrainCanStep`](crate::words#draincanstep), [`DrainSteps`](crate::words#drainsteps-of-slotmap_basic-drain), [`EmptiesByIndex`](crate::words#emptiesbyindex), [`InOrderAlong`](crate::words#inorderalong), [`IsContent`](crate::words#iscontent), [`KeepsAlong`](crate::words#keepsalong), [`KeepsLoan`](crate::words#keepsloan), [`ListsAlong`](crate::words#listsalong).
     #[inline]
     pub fn drain(&mut self) -> Drain<'_, K, V> {
         let cursor = self.cursor_from(0);

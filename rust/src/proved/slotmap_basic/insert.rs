@@ -36,11 +36,20 @@ impl<K: Key, V> SlotMap<K, V> {
     /// memory runs out. The error holds the value, and the map holds what it held. In Rust a full
     /// map panics, and running out of memory aborts. Constant time, unless the vectors grow.
     ///
-    /// ```ignore
+    /// ```
+    /// # use slotmap_proved::{DefaultKey, Global, Key};
+    /// # use slotmap_proved::fallible::SlotMap;
+    /// # fn main() -> Result<(), Box<dyn std::error::Error>> {
+    /// # let alloc = Global;
+    /// # let mut map: SlotMap<DefaultKey, u64> = SlotMap::new(alloc)?;
+    /// # let a = map.insert(1)?;
+    /// # let b = map.insert(2)?;
     /// map.remove(a);
     /// let c = map.insert(3)?;
     /// assert_eq!(c.data().idx(), a.data().idx());
     /// assert!(c != a);
+    /// # Ok(())
+    /// # }
     /// ```
     ///
     /// # Proved
@@ -48,10 +57,14 @@ impl<K: Key, V> SlotMap<K, V> {
     /// ```text
     /// ensures ok { IfOk result (λ key. Inserts self.old (K.data_of key) value self.new) }
     /// ensures err { IfErr result (λ error. Refuses self.old value error) }
+    ///
     /// // If a slot is vacant, the call can't fail.
     /// ensures reuses { HasVacant self.old → IsOk result }
+    ///
     /// ensures valid { MayGrow true self.old (IsErr result) self.new }
     /// ```
+    ///
+    /// Words: [`HasVacant`](crate::words#hasvacant), [`Inserts`](crate::words#inserts), [`MayGrow`](crate::words#maygrow), [`Refuses`](crate::words#refuses).
     #[inline(always)]
     pub fn insert(&mut self, value: V) -> Result<K, InsertError<V>> {
         if self.slots.has_room() {
@@ -70,9 +83,18 @@ impl<K: Key, V> SlotMap<K, V> {
     /// closure. Then the closure is called once, with the key that the call will return. In Rust
     /// the closure runs before the vectors grow. Costs as `insert`.
     ///
-    /// ```ignore
+    /// ```
+    /// # use slotmap_proved::{DefaultKey, Global, Key};
+    /// # use slotmap_proved::fallible::SlotMap;
+    /// # fn main() -> Result<(), Box<dyn std::error::Error>> {
+    /// # let alloc = Global;
+    /// # let mut map: SlotMap<DefaultKey, u64> = SlotMap::new(alloc)?;
+    /// # let a = map.insert(1)?;
+    /// # let b = map.insert(2)?;
     /// let c = map.insert_with_key(|key: DefaultKey| key.data().as_ffi())?;
     /// assert_eq!(map.get(c), Some(&c.data().as_ffi()));
+    /// # Ok(())
+    /// # }
     /// ```
     ///
     /// # Proved
@@ -80,12 +102,18 @@ impl<K: Key, V> SlotMap<K, V> {
     /// ```text
     /// // It is called if there is a slot, with the key that the value will have.
     /// requires { used self.old < most → (key : K) → K.data_of key ≡ self.old.offer → F.pre f key }
-    /// ensures ok { IfOk result (λ key. (v : V) × F.post f key v × Inserts self.old (K.data_of key) v self.new) }
+    ///
+    /// ensures ok { IfOk result (λ key. (v : V) × F.post f key v
+    ///     × Inserts self.old (K.data_of key) v self.new) }
     /// ensures err { IfErr result (RefusesInsert self.old) }
+    ///
     /// // If a slot is vacant, the call can't fail.
     /// ensures reuses { HasVacant self.old → IsOk result }
+    ///
     /// ensures valid { MayGrow true self.old (IsErr result) self.new }
     /// ```
+    ///
+    /// Words: [`HasVacant`](crate::words#hasvacant), [`Inserts`](crate::words#inserts), [`MayGrow`](crate::words#maygrow), [`most`](crate::words#most), [`offer`](crate::words#offer), [`RefusesInsert`](crate::words#refusesinsert), [`used`](crate::words#used).
     #[inline]
     pub fn insert_with_key<F: FnOnce(K) -> V>(&mut self, f: F) -> Result<K, InsertWithError>
     where
@@ -102,10 +130,19 @@ impl<K: Key, V> SlotMap<K, V> {
     /// closure's error is returned in `Closure`. The next insert returns the key that the closure
     /// was called with. Costs as `insert`. In Rust the closure's error alone is returned.
     ///
-    /// ```ignore
+    /// ```
+    /// # use slotmap_proved::{DefaultKey, Global, Key, TryInsertError};
+    /// # use slotmap_proved::fallible::SlotMap;
+    /// # fn main() -> Result<(), Box<dyn std::error::Error>> {
+    /// # let alloc = Global;
+    /// # let mut map: SlotMap<DefaultKey, u64> = SlotMap::new(alloc)?;
+    /// # let a = map.insert(1)?;
+    /// # let b = map.insert(2)?;
     /// let made: Result<DefaultKey, TryInsertError<u64>> = map.try_insert_with_key(|_| Err(7));
     /// assert!(matches!(made, Err(TryInsertError::Closure(7))));
     /// assert_eq!(map.len(), 2);
+    /// # Ok(())
+    /// # }
     /// ```
     ///
     /// # Proved
@@ -113,12 +150,18 @@ impl<K: Key, V> SlotMap<K, V> {
     /// ```text
     /// // It is called if there is a slot, with the key that the value will have.
     /// requires { used self.old < most → (key : K) → K.data_of key ≡ self.old.offer → F.pre f key }
-    /// ensures ok { IfOk result (λ key. (v : V) × F.post f key (Ok v) × Inserts self.old (K.data_of key) v self.new) }
+    ///
+    /// ensures ok { IfOk result (λ key. (v : V) × F.post f key (Ok v)
+    ///     × Inserts self.old (K.data_of key) v self.new) }
     /// ensures err { IfErr result (λ error. RefusesWith K.data_of (F.post f) self.old error) }
+    ///
     /// // If a slot is vacant, memory can't run out.
     /// ensures reuses { result ≡ Err TryInsertError.Memory → map.len self.old.next ≡ 0 }
+    ///
     /// ensures valid { MayGrow true self.old (IsErr result) self.new }
     /// ```
+    ///
+    /// Words: [`Inserts`](crate::words#inserts), [`MayGrow`](crate::words#maygrow), [`most`](crate::words#most), [`next`](crate::words#next), [`offer`](crate::words#offer), [`RefusesWith`](crate::words#refuseswith), [`used`](crate::words#used).
     #[inline]
     pub fn try_insert_with_key<F, E>(&mut self, f: F) -> Result<K, TryInsertError<E>>
     where

@@ -19,11 +19,20 @@ use crate::rt::std::marker::PhantomData;
 /// yield. After its end it yields nothing. All its steps together are linear in the number of
 /// slots, and allocate nothing. Dropping it drops the values that are left.
 ///
-/// ```ignore
+/// ```
+/// # use slotmap_proved::{DefaultKey, Global, Key};
+/// # use slotmap_proved::fallible::SlotMap;
+/// # fn main() -> Result<(), Box<dyn std::error::Error>> {
+/// # let alloc = Global;
+/// # let mut map: SlotMap<DefaultKey, u64> = SlotMap::new(alloc)?;
+/// # let a = map.insert(1)?;
+/// # let b = map.insert(2)?;
 /// let mut pairs = map.into_iter();
 /// assert_eq!(pairs.next(), Some((a, 1)));
 /// assert_eq!(pairs.next(), Some((b, 2)));
 /// assert_eq!(pairs.next(), None);
+/// # Ok(())
+/// # }
 /// ```
 pub struct IntoIter<K, V> {
     versions: Vec<u32>,
@@ -40,10 +49,19 @@ impl<K, V> IntoIter<K, V> {
     ///
     /// Constant time.
     ///
-    /// ```ignore
+    /// ```
+    /// # use slotmap_proved::{DefaultKey, Global, Key};
+    /// # use slotmap_proved::fallible::SlotMap;
+    /// # fn main() -> Result<(), Box<dyn std::error::Error>> {
+    /// # let alloc = Global;
+    /// # let mut map: SlotMap<DefaultKey, u64> = SlotMap::new(alloc)?;
+    /// # let a = map.insert(1)?;
+    /// # let b = map.insert(2)?;
     /// let mut pairs = map.into_iter();
     /// pairs.next();
     /// assert_eq!(pairs.len(), 1);
+    /// # Ok(())
+    /// # }
     /// ```
     ///
     /// # Proved
@@ -63,11 +81,20 @@ impl<K, V: Clone> IntoIter<K, V> {
     /// If memory runs out, or the clone of a value fails, the call fails, and this iterator is
     /// unchanged. Linear in the number of slots of the map.
     ///
-    /// ```ignore
+    /// ```
+    /// # use slotmap_proved::{DefaultKey, Global, Key};
+    /// # use slotmap_proved::fallible::SlotMap;
+    /// # fn main() -> Result<(), Box<dyn std::error::Error>> {
+    /// # let alloc = Global;
+    /// # let mut map: SlotMap<DefaultKey, u64> = SlotMap::new(alloc)?;
+    /// # let a = map.insert(1)?;
+    /// # let b = map.insert(2)?;
     /// let pairs = map.into_iter();
     /// let mut copy = pairs.clone()?;
     /// assert_eq!(copy.next(), Some((a, 1)));
     /// assert_eq!(pairs.len(), 2);
+    /// # Ok(())
+    /// # }
     /// ```
     ///
     /// # Proved
@@ -76,6 +103,8 @@ impl<K, V: Clone> IntoIter<K, V> {
     /// ensures clones { IfOk result (AreClones V.is_clone self.now) }
     /// ensures copies_if_clones_equal { IfOk result (λ copy. ClonesEqual V.is_clone → copy ≡ self.now) }
     /// ```
+    ///
+    /// Words: [`AreClones`](crate::words#areclones), [`ClonesEqual`](crate::words#clonesequal).
     #[inline]
     pub fn clone(&self) -> Result<Self, AllocError> {
         Ok(IntoIter {

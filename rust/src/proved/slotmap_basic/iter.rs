@@ -32,10 +32,19 @@ impl<'a, K, V> Iter<'a, K, V> {
     ///
     /// Constant time.
     ///
-    /// ```ignore
+    /// ```
+    /// # use slotmap_proved::{DefaultKey, Global, Key};
+    /// # use slotmap_proved::fallible::SlotMap;
+    /// # fn main() -> Result<(), Box<dyn std::error::Error>> {
+    /// # let alloc = Global;
+    /// # let mut map: SlotMap<DefaultKey, u64> = SlotMap::new(alloc)?;
+    /// # let a = map.insert(1)?;
+    /// # let b = map.insert(2)?;
     /// let mut pairs = map.iter();
     /// pairs.next();
     /// assert_eq!(pairs.len(), 1);
+    /// # Ok(())
+    /// # }
     /// ```
     ///
     /// # Proved
@@ -111,10 +120,19 @@ impl<'a, K, V> Keys<'a, K, V> {
     ///
     /// Constant time.
     ///
-    /// ```ignore
+    /// ```
+    /// # use slotmap_proved::{DefaultKey, Global, Key};
+    /// # use slotmap_proved::fallible::SlotMap;
+    /// # fn main() -> Result<(), Box<dyn std::error::Error>> {
+    /// # let alloc = Global;
+    /// # let mut map: SlotMap<DefaultKey, u64> = SlotMap::new(alloc)?;
+    /// # let a = map.insert(1)?;
+    /// # let b = map.insert(2)?;
     /// let mut keys = map.keys();
     /// keys.next();
     /// assert_eq!(keys.len(), 1);
+    /// # Ok(())
+    /// # }
     /// ```
     ///
     /// # Proved
@@ -184,10 +202,19 @@ impl<'a, K, V> Values<'a, K, V> {
     ///
     /// Constant time.
     ///
-    /// ```ignore
+    /// ```
+    /// # use slotmap_proved::{DefaultKey, Global, Key};
+    /// # use slotmap_proved::fallible::SlotMap;
+    /// # fn main() -> Result<(), Box<dyn std::error::Error>> {
+    /// # let alloc = Global;
+    /// # let mut map: SlotMap<DefaultKey, u64> = SlotMap::new(alloc)?;
+    /// # let a = map.insert(1)?;
+    /// # let b = map.insert(2)?;
     /// let mut values = map.values();
     /// values.next();
     /// assert_eq!(values.len(), 1);
+    /// # Ok(())
+    /// # }
     /// ```
     ///
     /// # Proved
@@ -251,11 +278,20 @@ impl<K: Key, V> SlotMap<K, V> {
     /// versions they look at 64 at a time, and allocate nothing. No iterator yields mutable
     /// references: use `retain` with a closure that writes and returns `true`.
     ///
-    /// ```ignore
+    /// ```
+    /// # use slotmap_proved::{DefaultKey, Global, Key};
+    /// # use slotmap_proved::fallible::SlotMap;
+    /// # fn main() -> Result<(), Box<dyn std::error::Error>> {
+    /// # let alloc = Global;
+    /// # let mut map: SlotMap<DefaultKey, u64> = SlotMap::new(alloc)?;
+    /// # let a = map.insert(1)?;
+    /// # let b = map.insert(2)?;
     /// let mut pairs = map.iter();
     /// assert_eq!(pairs.next(), Some((a, &1)));
     /// assert_eq!(pairs.next(), Some((b, &2)));
     /// assert_eq!(pairs.next(), None);
+    /// # Ok(())
+    /// # }
     /// ```
     ///
     /// # Proved
@@ -265,6 +301,8 @@ impl<K: Key, V> SlotMap<K, V> {
     /// ensures in_order { result ≡ map.entries self.now.live }
     /// ensures valid { IsContent true self.now }
     /// ```
+    ///
+    /// Words: [`IsContent`](crate::words#iscontent), [`IsListing`](crate::words#islisting), [`live`](crate::words#live).
     #[inline]
     pub fn iter(&self) -> Iter<'_, K, V> {
         self.slots.note_valid();
@@ -284,11 +322,20 @@ impl<K: Key, V> SlotMap<K, V> {
     ///
     /// It costs the same as [`SlotMap::iter`].
     ///
-    /// ```ignore
+    /// ```
+    /// # use slotmap_proved::{DefaultKey, Global, Key};
+    /// # use slotmap_proved::fallible::SlotMap;
+    /// # fn main() -> Result<(), Box<dyn std::error::Error>> {
+    /// # let alloc = Global;
+    /// # let mut map: SlotMap<DefaultKey, u64> = SlotMap::new(alloc)?;
+    /// # let a = map.insert(1)?;
+    /// # let b = map.insert(2)?;
     /// let mut keys = map.keys();
     /// assert_eq!(keys.next(), Some(a));
     /// assert_eq!(keys.next(), Some(b));
     /// assert_eq!(keys.next(), None);
+    /// # Ok(())
+    /// # }
     /// ```
     ///
     /// # Proved
@@ -298,6 +345,8 @@ impl<K: Key, V> SlotMap<K, V> {
     /// ensures in_order { result ≡ map.keys self.now.live }
     /// ensures valid { IsContent true self.now }
     /// ```
+    ///
+    /// Words: [`IsContent`](crate::words#iscontent), [`IsKeyListing`](crate::words#iskeylisting), [`live`](crate::words#live).
     #[inline]
     pub fn keys(&self) -> Keys<'_, K, V> {
         Keys { pairs: self.iter() }
@@ -308,10 +357,19 @@ impl<K: Key, V> SlotMap<K, V> {
     /// It costs the same as [`SlotMap::iter`]. No iterator yields mutable references: use `retain`
     /// with a closure that writes and returns `true`.
     ///
-    /// ```ignore
+    /// ```
+    /// # use slotmap_proved::{DefaultKey, Global, Key};
+    /// # use slotmap_proved::fallible::SlotMap;
+    /// # fn main() -> Result<(), Box<dyn std::error::Error>> {
+    /// # let alloc = Global;
+    /// # let mut map: SlotMap<DefaultKey, u64> = SlotMap::new(alloc)?;
+    /// # let a = map.insert(1)?;
+    /// # let b = map.insert(2)?;
     /// let mut values = map.values();
     /// assert_eq!(values.next(), Some(&1));
     /// assert_eq!(values.next(), Some(&2));
+    /// # Ok(())
+    /// # }
     /// ```
     ///
     /// # Proved
@@ -321,6 +379,8 @@ impl<K: Key, V> SlotMap<K, V> {
     /// ensures in_order { result ≡ map.values self.now.live }
     /// ensures valid { IsContent true self.now }
     /// ```
+    ///
+    /// Words: [`IsContent`](crate::words#iscontent), [`IsValueListing`](crate::words#isvaluelisting), [`live`](crate::words#live).
     #[inline]
     pub fn values(&self) -> Values<'_, K, V> {
         Values { pairs: self.iter() }

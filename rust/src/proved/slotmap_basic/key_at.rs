@@ -14,11 +14,20 @@ impl<K: Key, V> SlotMap<K, V> {
     /// No two live keys have the same index. So a table beside the map may name a key by its index, in 4
     /// bytes. Constant time; allocates nothing. Rust lacks this call.
     ///
-    /// ```ignore
+    /// ```
+    /// # use slotmap_proved::{DefaultKey, Global, Key};
+    /// # use slotmap_proved::fallible::SlotMap;
+    /// # fn main() -> Result<(), Box<dyn std::error::Error>> {
+    /// # let alloc = Global;
+    /// # let mut map: SlotMap<DefaultKey, u64> = SlotMap::new(alloc)?;
+    /// # let a = map.insert(1)?;
+    /// # let b = map.insert(2)?;
     /// let index = a.data().idx();
     /// assert_eq!(map.key_at(index), Some(a));
     /// map.remove(a);
     /// assert_eq!(map.key_at(index), None);
+    /// # Ok(())
+    /// # }
     /// ```
     ///
     /// # Proved
@@ -29,6 +38,8 @@ impl<K: Key, V> SlotMap<K, V> {
     /// ensures none { IfNone result ((other : KeyOf) → IsLive self.now other → other.index ≢ index) }
     /// ensures valid { IsContent true self.now }
     /// ```
+    ///
+    /// Words: [`index`](crate::words#index), [`IsContent`](crate::words#iscontent), [`IsLive`](crate::words#islive), [`Key`](crate::words#key).
     #[inline]
     pub fn key_at(&self, index: u32) -> Option<K> {
         self.live_at(index as usize)

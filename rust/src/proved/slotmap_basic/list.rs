@@ -22,11 +22,20 @@ impl<K: Key, V> SlotMap<K, V> {
     /// cloned once. Linear in the number of slots. `from_slots` reads the list back, except that of
     /// a map with 4294967294 slots, which is too long. In Rust `Serialize` writes the same records.
     ///
-    /// ```ignore
+    /// ```
+    /// # use slotmap_proved::{DefaultKey, Global, Key, list};
+    /// # use slotmap_proved::fallible::SlotMap;
+    /// # fn main() -> Result<(), Box<dyn std::error::Error>> {
+    /// # let alloc = Global;
+    /// # let mut map: SlotMap<DefaultKey, u64> = SlotMap::new(alloc)?;
+    /// # let a = map.insert(1)?;
+    /// # let b = map.insert(2)?;
     /// let list = map.to_slots()?;
     /// assert_eq!(list.len(), 3);
     /// assert_eq!(list[a.data().idx() as usize].value, Some(1));
     /// assert_eq!(list[a.data().idx() as usize].version, a.data().version());
+    /// # Ok(())
+    /// # }
     /// ```
     ///
     /// # Proved
@@ -35,11 +44,15 @@ impl<K: Key, V> SlotMap<K, V> {
     /// // The list is that of a copy, and has a clone under each live key.
     /// ensures writes { IfOk result (λ slots. WritesClones V.is_clone true self.now slots.items) }
     /// ensures contents { IfOk result (λ slots. (k : KeyOf) → IsCloneOf V.is_clone (map.get self.now.live k) (map.get (start_live slots.items) k)) }
+    ///
     /// // Where clones equal their values, it is the map's own list.
     /// ensures writes_if_clones_equal { IfOk result (λ slots. ClonesEqual V.is_clone → Writes self.now slots.items) }
     /// ensures contents_if_clones_equal { IfOk result (λ slots. ClonesEqual V.is_clone → start_live slots.items ≡ self.now.live) }
+    ///
     /// ensures valid { IsContent true self.now }
     /// ```
+    ///
+    /// Words: [`ClonesEqual`](crate::words#clonesequal), [`IsCloneOf`](crate::words#iscloneof), [`IsContent`](crate::words#iscontent), [`Key`](crate::words#key), [`live`](crate::words#live), [`start_live`](crate::words#start_live), [`Writes`](crate::words#writes), [`WritesClones`](crate::words#writesclones).
     #[inline]
     pub fn to_slots(&self) -> Result<Vec<SlotRecord<V>>, OutOfMemory>
     where
@@ -72,7 +85,14 @@ impl<K: Key, V> SlotMap<K, V> {
     /// Two passes over the list. In Rust `Deserialize` reads such a list, and version 0 is that of
     /// a vacant slot, so the versions of a slot wrap around.
     ///
-    /// ```ignore
+    /// ```
+    /// # use slotmap_proved::{DefaultKey, Global, Key, KeyData, list, SlotRecord};
+    /// # use slotmap_proved::fallible::{SlotMap, Vec};
+    /// # fn main() -> Result<(), Box<dyn std::error::Error>> {
+    /// # let alloc = Global;
+    /// # let mut map: SlotMap<DefaultKey, u64> = SlotMap::new(alloc)?;
+    /// # let a = map.insert(1)?;
+    /// # let b = map.insert(2)?;
     /// let mut list = Vec::new(alloc);
     /// list.push(SlotRecord { value: None, version: 0 })?;
     /// list.push(SlotRecord { value: Some(7), version: 3 })?;
@@ -80,6 +100,8 @@ impl<K: Key, V> SlotMap<K, V> {
     /// let mut made: SlotMap<DefaultKey, u64> = SlotMap::from_slots(alloc, list)?;
     /// assert_eq!(made.get(DefaultKey::from(KeyData::new(1, 3))), Some(&7));
     /// assert_eq!(made.insert(8)?.data(), KeyData::new(2, 3));
+    /// # Ok(())
+    /// # }
     /// ```
     ///
     /// # Proved
@@ -88,10 +110,13 @@ impl<K: Key, V> SlotMap<K, V> {
     /// // What the list says, and which slot is used next.
     /// ensures reads { IfOk result (ReadsAs true list.items) }
     /// ensures stack { IfOk result (λ made. made.stack ≡ Some (start_stack list.items)) }
+    ///
     /// // The errors: the first one that applies is returned.
     /// ensures accepted { IsOk result → Accepts list.items list_limit }
     /// ensures err { IfErr result (RefusesStart list.items list_limit) }
     /// ```
+    ///
+    /// Words: [`Accepts`](crate::words#accepts), [`list_limit`](crate::words#list_limit), [`ReadsAs`](crate::words#readsas), [`RefusesStart`](crate::words#refusesstart), [`stack`](crate::words#stack), [`start_stack`](crate::words#start_stack).
     #[inline]
     pub fn from_slots(alloc: Global, list: Vec<SlotRecord<V>>) -> Result<Self, SlotsError> {
         Ok(SlotMap::over(Slots::from_slots(alloc, list)?))

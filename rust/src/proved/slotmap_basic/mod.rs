@@ -12,7 +12,7 @@
 //! Each example comes after these lines:
 //!
 //! ```text
-//! let alloc = rt.alloc();
+//! let alloc = Global;
 //! let mut map: SlotMap<DefaultKey, u64> = SlotMap::new(alloc)?;
 //! let a = map.insert(1)?;
 //! let b = map.insert(2)?;
@@ -60,11 +60,20 @@ use crate::rt::std::marker::PhantomData;
 /// A live key can be detached: its value is taken out, and its slot is kept until `reattach` binds
 /// the key to a value again. At most 4294967294 keys can be live, detached or retired.
 ///
-/// ```ignore
+/// ```
+/// # use slotmap_proved::{DefaultKey, Global, Key};
+/// # use slotmap_proved::fallible::SlotMap;
+/// # fn main() -> Result<(), Box<dyn std::error::Error>> {
+/// # let alloc = Global;
+/// # let mut map: SlotMap<DefaultKey, u64> = SlotMap::new(alloc)?;
+/// # let a = map.insert(1)?;
+/// # let b = map.insert(2)?;
 /// let key = map.insert(5)?;
 /// assert_eq!(map.get(key), Some(&5));
 /// assert_eq!(map.remove(key), Some(5));
 /// assert!(!map.contains_key(key));
+/// # Ok(())
+/// # }
 /// ```
 pub struct SlotMap<K, V> {
     // Versions, uses and values, each in a vector of its own.
@@ -89,10 +98,19 @@ impl<V> SlotMap<DefaultKey, V> {
     /// It allocates slot 0, which no key uses, and fails with `Memory` if memory runs out. Constant time,
     /// the allocations aside.
     ///
-    /// ```ignore
+    /// ```
+    /// # use slotmap_proved::{DefaultKey, Global, Key, KeyData};
+    /// # use slotmap_proved::fallible::SlotMap;
+    /// # fn main() -> Result<(), Box<dyn std::error::Error>> {
+    /// # let alloc = Global;
+    /// # let mut map: SlotMap<DefaultKey, u64> = SlotMap::new(alloc)?;
+    /// # let a = map.insert(1)?;
+    /// # let b = map.insert(2)?;
     /// let mut empty: SlotMap<DefaultKey, u64> = SlotMap::new(alloc)?;
     /// assert!(empty.is_empty());
     /// assert_eq!(empty.insert(5)?.data(), KeyData::new(1, 1));
+    /// # Ok(())
+    /// # }
     /// ```
     ///
     /// # Proved
@@ -103,6 +121,8 @@ impl<V> SlotMap<DefaultKey, V> {
     /// ensures err { IfErr result (λ error. error ≡ ReserveError.Memory) }
     /// ensures valid { IfOk result (IsContent true) }
     /// ```
+    ///
+    /// Words: [`IsContent`](crate::words#iscontent), [`IsNew`](crate::words#isnew), [`stack`](crate::words#stack).
     #[inline]
     pub fn new(alloc: Global) -> Result<Self, ReserveError> {
         SlotMap::with_key(alloc)
@@ -113,10 +133,19 @@ impl<V> SlotMap<DefaultKey, V> {
     /// The next `capacity` inserts succeed. It fails with `TooGreat` if `capacity` is over
     /// 4294967294, and with `Memory` if memory runs out. Constant time, the allocations aside.
     ///
-    /// ```ignore
+    /// ```
+    /// # use slotmap_proved::{DefaultKey, Global, Key};
+    /// # use slotmap_proved::fallible::SlotMap;
+    /// # fn main() -> Result<(), Box<dyn std::error::Error>> {
+    /// # let alloc = Global;
+    /// # let mut map: SlotMap<DefaultKey, u64> = SlotMap::new(alloc)?;
+    /// # let a = map.insert(1)?;
+    /// # let b = map.insert(2)?;
     /// let roomy: SlotMap<DefaultKey, u64> = SlotMap::with_capacity(alloc, 10)?;
     /// assert!(roomy.is_empty());
     /// assert!(roomy.capacity() >= 10);
+    /// # Ok(())
+    /// # }
     /// ```
     ///
     /// # Proved
@@ -129,6 +158,8 @@ impl<V> SlotMap<DefaultKey, V> {
     /// ensures err { IfErr result (RefusesCapacity capacity) }
     /// ensures valid { IfOk result (IsContent true) }
     /// ```
+    ///
+    /// Words: [`capacity`](crate::words#capacity-of-slotmap_core-content), [`IsContent`](crate::words#iscontent), [`IsNew`](crate::words#isnew), [`RefusesCapacity`](crate::words#refusescapacity), [`room`](crate::words#room-of-slotmap_core-content), [`stack`](crate::words#stack).
     #[inline]
     pub fn with_capacity(alloc: Global, capacity: usize) -> Result<Self, ReserveError> {
         SlotMap::with_capacity_and_key(alloc, capacity)
@@ -141,10 +172,19 @@ impl<K: Key, V> SlotMap<K, V> {
     /// It allocates slot 0, which no key uses, and fails with `Memory` if memory runs out. Constant time,
     /// the allocations aside.
     ///
-    /// ```ignore
+    /// ```
+    /// # use slotmap_proved::{DefaultKey, Global, Key, NodeKey};
+    /// # use slotmap_proved::fallible::SlotMap;
+    /// # fn main() -> Result<(), Box<dyn std::error::Error>> {
+    /// # let alloc = Global;
+    /// # let mut map: SlotMap<DefaultKey, u64> = SlotMap::new(alloc)?;
+    /// # let a = map.insert(1)?;
+    /// # let b = map.insert(2)?;
     /// let mut nodes: SlotMap<NodeKey, u64> = SlotMap::with_key(alloc)?;
     /// let key: NodeKey = nodes.insert(5)?;
     /// assert_eq!(nodes.get(key), Some(&5));
+    /// # Ok(())
+    /// # }
     /// ```
     ///
     /// # Proved
@@ -155,6 +195,8 @@ impl<K: Key, V> SlotMap<K, V> {
     /// ensures err { IfErr result (λ error. error ≡ ReserveError.Memory) }
     /// ensures valid { IfOk result (IsContent true) }
     /// ```
+    ///
+    /// Words: [`IsContent`](crate::words#iscontent), [`IsNew`](crate::words#isnew), [`stack`](crate::words#stack).
     #[inline]
     pub fn with_key(alloc: Global) -> Result<Self, ReserveError> {
         SlotMap::with_capacity_and_key(alloc, 0)
@@ -165,9 +207,18 @@ impl<K: Key, V> SlotMap<K, V> {
     /// The next `capacity` inserts succeed. It fails with `TooGreat` if `capacity` is over
     /// 4294967294, and with `Memory` if memory runs out. Constant time, the allocations aside.
     ///
-    /// ```ignore
+    /// ```
+    /// # use slotmap_proved::{DefaultKey, Global, Key, NodeKey};
+    /// # use slotmap_proved::fallible::SlotMap;
+    /// # fn main() -> Result<(), Box<dyn std::error::Error>> {
+    /// # let alloc = Global;
+    /// # let mut map: SlotMap<DefaultKey, u64> = SlotMap::new(alloc)?;
+    /// # let a = map.insert(1)?;
+    /// # let b = map.insert(2)?;
     /// let nodes: SlotMap<NodeKey, u64> = SlotMap::with_capacity_and_key(alloc, 10)?;
     /// assert!(nodes.capacity() >= 10);
+    /// # Ok(())
+    /// # }
     /// ```
     ///
     /// # Proved
@@ -180,6 +231,8 @@ impl<K: Key, V> SlotMap<K, V> {
     /// ensures err { IfErr result (RefusesCapacity capacity) }
     /// ensures valid { IfOk result (IsContent true) }
     /// ```
+    ///
+    /// Words: [`capacity`](crate::words#capacity-of-slotmap_core-content), [`IsContent`](crate::words#iscontent), [`IsNew`](crate::words#isnew), [`RefusesCapacity`](crate::words#refusescapacity), [`room`](crate::words#room-of-slotmap_core-content), [`stack`](crate::words#stack).
     #[inline]
     pub fn with_capacity_and_key(alloc: Global, capacity: usize) -> Result<Self, ReserveError> {
         Ok(SlotMap::over(Slots::with_capacity(alloc, capacity)?))
@@ -189,10 +242,19 @@ impl<K: Key, V> SlotMap<K, V> {
     ///
     /// Constant time.
     ///
-    /// ```ignore
+    /// ```
+    /// # use slotmap_proved::{DefaultKey, Global, Key};
+    /// # use slotmap_proved::fallible::SlotMap;
+    /// # fn main() -> Result<(), Box<dyn std::error::Error>> {
+    /// # let alloc = Global;
+    /// # let mut map: SlotMap<DefaultKey, u64> = SlotMap::new(alloc)?;
+    /// # let a = map.insert(1)?;
+    /// # let b = map.insert(2)?;
     /// assert_eq!(map.len(), 2);
     /// map.detach(a);
     /// assert_eq!(map.len(), 1);
+    /// # Ok(())
+    /// # }
     /// ```
     ///
     /// # Proved
@@ -201,6 +263,8 @@ impl<K: Key, V> SlotMap<K, V> {
     /// ensures value { result ≡ map.len self.now.live }
     /// ensures valid { IsContent true self.now }
     /// ```
+    ///
+    /// Words: [`IsContent`](crate::words#iscontent), [`live`](crate::words#live).
     #[inline]
     pub fn len(&self) -> usize {
         self.slots.len()
@@ -210,10 +274,19 @@ impl<K: Key, V> SlotMap<K, V> {
     ///
     /// Constant time.
     ///
-    /// ```ignore
+    /// ```
+    /// # use slotmap_proved::{DefaultKey, Global, Key};
+    /// # use slotmap_proved::fallible::SlotMap;
+    /// # fn main() -> Result<(), Box<dyn std::error::Error>> {
+    /// # let alloc = Global;
+    /// # let mut map: SlotMap<DefaultKey, u64> = SlotMap::new(alloc)?;
+    /// # let a = map.insert(1)?;
+    /// # let b = map.insert(2)?;
     /// assert!(!map.is_empty());
     /// map.clear();
     /// assert!(map.is_empty());
+    /// # Ok(())
+    /// # }
     /// ```
     ///
     /// # Proved
@@ -222,6 +295,8 @@ impl<K: Key, V> SlotMap<K, V> {
     /// ensures value { IsTrue result ↔ (map.len self.now.live ≡ 0) }
     /// ensures valid { IsContent true self.now }
     /// ```
+    ///
+    /// Words: [`IsContent`](crate::words#iscontent), [`live`](crate::words#live).
     #[inline]
     pub fn is_empty(&self) -> bool {
         self.len() == 0
@@ -232,10 +307,19 @@ impl<K: Key, V> SlotMap<K, V> {
     /// The slots of live, detached and retired keys count, as do vacant slots and those that aren't
     /// made yet. Constant time.
     ///
-    /// ```ignore
+    /// ```
+    /// # use slotmap_proved::{DefaultKey, Global, Key};
+    /// # use slotmap_proved::fallible::SlotMap;
+    /// # fn main() -> Result<(), Box<dyn std::error::Error>> {
+    /// # let alloc = Global;
+    /// # let mut map: SlotMap<DefaultKey, u64> = SlotMap::new(alloc)?;
+    /// # let a = map.insert(1)?;
+    /// # let b = map.insert(2)?;
     /// let before = map.capacity();
     /// map.clear();
     /// assert_eq!(map.capacity(), before);
+    /// # Ok(())
+    /// # }
     /// ```
     ///
     /// # Proved
@@ -245,6 +329,8 @@ impl<K: Key, V> SlotMap<K, V> {
     /// ensures places { places self.now ≤ result }
     /// ensures valid { IsContent true self.now }
     /// ```
+    ///
+    /// Words: [`capacity`](crate::words#capacity-of-slotmap_core-content), [`IsContent`](crate::words#iscontent), [`places`](crate::words#places-of-slotmap_core-content).
     #[inline]
     pub fn capacity(&self) -> usize {
         let _ = self.slots.layout();
@@ -263,13 +349,22 @@ impl<K: Key, V> SlotMap<K, V> {
     /// If there is room already, the call succeeds and nothing changes. Rust counts detached slots
     /// as free. Linear in the number of slots if the vectors grow, else constant time.
     ///
-    /// ```ignore
+    /// ```
+    /// # use slotmap_proved::{DefaultKey, Global, Key};
+    /// # use slotmap_proved::fallible::SlotMap;
+    /// # fn main() -> Result<(), Box<dyn std::error::Error>> {
+    /// # let alloc = Global;
+    /// # let mut map: SlotMap<DefaultKey, u64> = SlotMap::new(alloc)?;
+    /// # let a = map.insert(1)?;
+    /// # let b = map.insert(2)?;
     /// map.reserve(10)?;
     /// let capacity = map.capacity();
     /// for i in 0..10 {
     ///     map.insert(i)?;
     /// }
     /// assert_eq!(map.capacity(), capacity);
+    /// # Ok(())
+    /// # }
     /// ```
     ///
     /// # Proved
@@ -279,6 +374,8 @@ impl<K: Key, V> SlotMap<K, V> {
     /// ensures err { IfErr result (RefusesCapacity (used self.old + additional)) }
     /// ensures reuses { additional ≤ map.len self.old.next → IsOk result }
     /// ```
+    ///
+    /// Words: [`MakesRoom`](crate::words#makesroom), [`next`](crate::words#next), [`RefusesCapacity`](crate::words#refusescapacity), [`used`](crate::words#used).
     #[inline]
     pub fn reserve(&mut self, additional: usize) -> Result<(), ReserveError> {
         self.slots.reserve(additional)
@@ -289,9 +386,18 @@ impl<K: Key, V> SlotMap<K, V> {
     /// Here `reserve` returns a `Result` too; in Rust it aborts if memory runs out. Costs as
     /// `reserve`.
     ///
-    /// ```ignore
+    /// ```
+    /// # use slotmap_proved::{DefaultKey, Global, Key, ReserveError};
+    /// # use slotmap_proved::fallible::SlotMap;
+    /// # fn main() -> Result<(), Box<dyn std::error::Error>> {
+    /// # let alloc = Global;
+    /// # let mut map: SlotMap<DefaultKey, u64> = SlotMap::new(alloc)?;
+    /// # let a = map.insert(1)?;
+    /// # let b = map.insert(2)?;
     /// assert!(map.try_reserve(10).is_ok());
     /// assert!(matches!(map.try_reserve(4294967295), Err(ReserveError::TooGreat)));
+    /// # Ok(())
+    /// # }
     /// ```
     ///
     /// # Proved
@@ -301,6 +407,8 @@ impl<K: Key, V> SlotMap<K, V> {
     /// ensures err { IfErr result (RefusesCapacity (used self.old + additional)) }
     /// ensures reuses { additional ≤ map.len self.old.next → IsOk result }
     /// ```
+    ///
+    /// Words: [`MakesRoom`](crate::words#makesroom), [`next`](crate::words#next), [`RefusesCapacity`](crate::words#refusescapacity), [`used`](crate::words#used).
     #[inline]
     pub fn try_reserve(&mut self, additional: usize) -> Result<(), ReserveError> {
         self.reserve(additional)

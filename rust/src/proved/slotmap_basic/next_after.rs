@@ -27,11 +27,20 @@ impl<K: Key, V> SlotMap<K, V> {
     /// the null key. Linear in the number of slots that it passes over, whose versions it looks at
     /// 64 at a time; allocates nothing. Rust lacks this call.
     ///
-    /// ```ignore
+    /// ```
+    /// # use slotmap_proved::{DefaultKey, Global, Key};
+    /// # use slotmap_proved::fallible::SlotMap;
+    /// # fn main() -> Result<(), Box<dyn std::error::Error>> {
+    /// # let alloc = Global;
+    /// # let mut map: SlotMap<DefaultKey, u64> = SlotMap::new(alloc)?;
+    /// # let a = map.insert(1)?;
+    /// # let b = map.insert(2)?;
     /// assert_eq!(map.next_after(None), Some((a, &1)));
     /// map.remove(a);
     /// assert_eq!(map.next_after(Some(a)), Some((b, &2)));
     /// assert_eq!(map.next_after(Some(b)), None);
+    /// # Ok(())
+    /// # }
     /// ```
     ///
     /// # Proved
@@ -39,10 +48,13 @@ impl<K: Key, V> SlotMap<K, V> {
     /// ```text
     /// ensures value { IfSome result (λ found. map.get self.now.live (K.data_of found.0) ≡ Some found.1.now) }
     /// ensures after { IfSome result (λ found. index_after K.data_of key ≤ (K.data_of found.0).index) }
-    /// ensures first { IfSome result (λ found. (other : KeyOf) → IsLive self.now other → index_after K.data_of key ≤ other.index → (K.data_of found.0).index ≤ other.index) }
+    /// ensures first { IfSome result (λ found. (other : KeyOf) → IsLive self.now other →
+    ///     index_after K.data_of key ≤ other.index → (K.data_of found.0).index ≤ other.index) }
     /// ensures none { IfNone result ((other : KeyOf) → IsLive self.now other → other.index < index_after K.data_of key) }
     /// ensures valid { IsContent true self.now }
     /// ```
+    ///
+    /// Words: [`index`](crate::words#index), [`index_after`](crate::words#index_after), [`IsContent`](crate::words#iscontent), [`IsLive`](crate::words#islive), [`Key`](crate::words#key), [`live`](crate::words#live).
     #[inline(always)]
     pub fn next_after(&self, key: Option<K>) -> Option<(K, &V)> {
         let start = index_after(key);

@@ -14,10 +14,19 @@ impl<K: Key, V> SlotMap<K, V> {
     /// 4294967295, the last one, the slot is retired; in Rust its versions wrap around. Constant
     /// time; allocates nothing.
     ///
-    /// ```ignore
+    /// ```
+    /// # use slotmap_proved::{DefaultKey, Global, Key};
+    /// # use slotmap_proved::fallible::SlotMap;
+    /// # fn main() -> Result<(), Box<dyn std::error::Error>> {
+    /// # let alloc = Global;
+    /// # let mut map: SlotMap<DefaultKey, u64> = SlotMap::new(alloc)?;
+    /// # let a = map.insert(1)?;
+    /// # let b = map.insert(2)?;
     /// assert_eq!(map.remove(a), Some(1));
     /// assert_eq!(map.remove(a), None);
     /// assert_eq!(map.get(b), Some(&2));
+    /// # Ok(())
+    /// # }
     /// ```
     ///
     /// # Proved
@@ -29,6 +38,8 @@ impl<K: Key, V> SlotMap<K, V> {
     /// ensures live { self.new.live ≡ map.remove self.old.live (K.data_of key) }
     /// ensures valid { StaysValid true self.old self.new }
     /// ```
+    ///
+    /// Words: [`live`](crate::words#live), [`Removes`](crate::words#removes), [`StaysValid`](crate::words#staysvalid).
     #[inline]
     pub fn remove(&mut self, key: K) -> Option<V> {
         self.slots.remove(key.data())

@@ -15,10 +15,19 @@ impl<K: Key, V> SlotMap<K, V> {
     /// keys are visited by ascending index. Detached keys aren't visited, and stay detached. Linear
     /// in the number of slots.
     ///
-    /// ```ignore
+    /// ```
+    /// # use slotmap_proved::{DefaultKey, Global, Key};
+    /// # use slotmap_proved::fallible::SlotMap;
+    /// # fn main() -> Result<(), Box<dyn std::error::Error>> {
+    /// # let alloc = Global;
+    /// # let mut map: SlotMap<DefaultKey, u64> = SlotMap::new(alloc)?;
+    /// # let a = map.insert(1)?;
+    /// # let b = map.insert(2)?;
     /// map.retain(|_, value| *value % 2 == 0);
     /// assert_eq!(map.get(a), None);
     /// assert_eq!(map.get(b), Some(&2));
+    /// # Ok(())
+    /// # }
     /// ```
     ///
     /// # Proved
@@ -31,6 +40,8 @@ impl<K: Key, V> SlotMap<K, V> {
     /// ensures freed_order { FreesByIndex self.old self.new }
     /// ensures valid { StaysValid true self.old self.new }
     /// ```
+    ///
+    /// Words: [`CallableOnEach`](crate::words#callableoneach), [`FreesByIndex`](crate::words#freesbyindex), [`Leaves`](crate::words#leaves), [`live`](crate::words#live), [`RetainsBy`](crate::words#retainsby), [`StaysValid`](crate::words#staysvalid).
     #[inline]
     pub fn retain<F: FnMut(K, &mut V) -> bool>(&mut self, mut f: F)
     where

@@ -28,6 +28,8 @@ impl<K: Key, V> BoundedMap<K, V> {
     /// ensures bound { bound self.new ≡ bound self.old }
     /// ensures valid { StaysValid true self.old self.new }
     /// ```
+    ///
+    /// Words: [`bound`](crate::words#bound), [`Leaves`](crate::words#leaves), [`live`](crate::words#live), [`StaysValid`](crate::words#staysvalid).
     #[inline]
     pub fn clear(&mut self) {
         let _ = self.len();

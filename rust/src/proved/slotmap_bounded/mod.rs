@@ -82,6 +82,8 @@ impl<K: Key, V> BoundedMap<K, V> {
     /// ensures err { IfErr result (RefusesCapacity capacity) }
     /// ensures valid { IfOk result (IsContent true) }
     /// ```
+    ///
+    /// Words: [`bound`](crate::words#bound), [`IsContent`](crate::words#iscontent), [`IsNew`](crate::words#isnew), [`RefusesCapacity`](crate::words#refusescapacity), [`room`](crate::words#room-of-slotmap_core-content).
     #[inline]
     pub fn with_capacity(alloc: Global, capacity: usize) -> Result<Self, ReserveError> {
         let map = SlotMap::with_capacity_and_key(alloc, capacity)?;
@@ -106,6 +108,8 @@ impl<K: Key, V> BoundedMap<K, V> {
     /// ensures value { result ≡ map.len self.now.live }
     /// ensures valid { IsContent true self.now }
     /// ```
+    ///
+    /// Words: [`IsContent`](crate::words#iscontent), [`live`](crate::words#live).
     #[inline]
     pub fn len(&self) -> usize {
         self.map.len()
@@ -127,6 +131,8 @@ impl<K: Key, V> BoundedMap<K, V> {
     /// ensures limit { result ≤ most }
     /// ensures valid { IsContent true self.now }
     /// ```
+    ///
+    /// Words: [`IsContent`](crate::words#iscontent), [`most`](crate::words#most), [`places`](crate::words#places-of-slotmap_core-content), [`room`](crate::words#room-of-slotmap_core-content), [`used`](crate::words#used).
     #[inline]
     pub fn capacity(&self) -> usize {
         let _ = self.map.len();
@@ -147,6 +153,8 @@ impl<K: Key, V> BoundedMap<K, V> {
     /// ```text
     /// ensures { IsTrue result ↔ 0 < self.now.room }
     /// ```
+    ///
+    /// Words: [`room`](crate::words#room-of-slotmap_core-content).
     #[inline(always)]
     pub fn has_room(&self) -> bool {
         self.room > 0
@@ -171,6 +179,8 @@ impl<K: Key, V> BoundedMap<K, V> {
     /// ensures err { IfErr result (λ error. (error ≡ ReserveError.TooGreat) × (most < used self.now + additional)) }
     /// ensures valid { IsContent true self.now }
     /// ```
+    ///
+    /// Words: [`bound`](crate::words#bound), [`IsContent`](crate::words#iscontent), [`most`](crate::words#most), [`room`](crate::words#room-of-slotmap_core-content), [`used`](crate::words#used).
     #[inline]
     pub fn capacity_for(&self, additional: usize) -> Result<usize, ReserveError> {
         let _ = self.capacity();
@@ -207,6 +217,8 @@ impl<K: Key, V> BoundedMap<K, V> {
     /// ensures grows { OnOk result (bound self.new ≡ bound_with self.old additional) }
     /// ensures within { bound self.new ≤ bound_with self.old additional }
     /// ```
+    ///
+    /// Words: [`bound`](crate::words#bound), [`capacity`](crate::words#capacity-of-slotmap_core-content), [`MakesRoom`](crate::words#makesroom), [`RefusesCapacity`](crate::words#refusescapacity), [`used`](crate::words#used).
     #[inline]
     pub fn reserve(&mut self, additional: usize) -> Result<(), ReserveError> {
         let _ = self.map.len();
@@ -247,6 +259,8 @@ impl<K: Key, V> BoundedMap<K, V> {
     /// ensures bound { bound self.new ≡ bound self.old }
     /// ensures valid { StaysValid true self.old self.new }
     /// ```
+    ///
+    /// Words: [`bound`](crate::words#bound), [`index`](crate::words#index), [`Inserts`](crate::words#inserts), [`live`](crate::words#live), [`room`](crate::words#room-of-slotmap_core-content), [`StaysValid`](crate::words#staysvalid).
     #[inline(always)]
     pub(crate) fn insert_reserved(&mut self, value: V) -> K {
         match self.map.insert(value) {
@@ -281,6 +295,8 @@ impl<K: Key, V> BoundedMap<K, V> {
     /// ensures bound { bound self.new ≡ bound self.old }
     /// ensures valid { StaysValid true self.old self.new }
     /// ```
+    ///
+    /// Words: [`bound`](crate::words#bound), [`live`](crate::words#live), [`Removes`](crate::words#removes), [`StaysValid`](crate::words#staysvalid).
     #[inline]
     pub fn remove(&mut self, key: K) -> Option<V> {
         let value = self.map.remove(key)?;
@@ -304,6 +320,8 @@ impl<K: Key, V> BoundedMap<K, V> {
     /// ensures value { result ≡ map.contains_key self.now.live (K.data_of key) }
     /// ensures valid { IsContent true self.now }
     /// ```
+    ///
+    /// Words: [`IsContent`](crate::words#iscontent), [`live`](crate::words#live).
     #[inline]
     pub fn contains_key(&self, key: K) -> bool {
         self.map.contains_key(key)
@@ -324,6 +342,8 @@ impl<K: Key, V> BoundedMap<K, V> {
     /// ensures index { IfSome result (λ key. (K.data_of key).index ≡ index) }
     /// ensures none { IfNone result ((other : KeyOf) → IsLive self.now other → other.index ≢ index) }
     /// ```
+    ///
+    /// Words: [`index`](crate::words#index), [`IsLive`](crate::words#islive), [`Key`](crate::words#key).
     #[inline]
     pub fn key_at(&self, index: u32) -> Option<K> {
         self.map.key_at(index)
@@ -344,6 +364,8 @@ impl<K: Key, V> BoundedMap<K, V> {
     /// ensures live { IsLive self.now (K.data_of result) }
     /// ensures index { (K.data_of result).index ≡ index }
     /// ```
+    ///
+    /// Words: [`index`](crate::words#index), [`IsLive`](crate::words#islive), [`Key`](crate::words#key).
     #[inline(always)]
     pub(crate) fn live_key(&self, index: u32) -> K {
         match self.map.key_at(index) {
@@ -370,6 +392,8 @@ impl<K: Key, V> BoundedMap<K, V> {
     /// ```text
     /// requires { IsLive self.now (K.data_of key) }
     /// ```
+    ///
+    /// Words: [`IsLive`](crate::words#islive).
     #[inline(always)]
     pub(crate) fn note_live(&self, key: K) {
         rule_out(!self.map.contains_key(key));
@@ -389,6 +413,8 @@ impl<K: Key, V> BoundedMap<K, V> {
     /// ```text
     /// ensures { option_copied result ≡ map.get self.now.live (K.data_of key) }
     /// ```
+    ///
+    /// Words: [`live`](crate::words#live).
     #[inline]
     pub fn get(&self, key: K) -> Option<&V> {
         self.map.get(key)
@@ -408,6 +434,8 @@ impl<K: Key, V> BoundedMap<K, V> {
     /// requires { IsLive self.now (K.data_of key) }
     /// ensures { map.get self.now.live (K.data_of key) ≡ Some result.now }
     /// ```
+    ///
+    /// Words: [`IsLive`](crate::words#islive), [`live`](crate::words#live).
     #[inline]
     pub(crate) fn value(&self, key: K) -> &V {
         self.map.get_unchecked(key)
@@ -430,6 +458,8 @@ impl<K: Key, V> BoundedMap<K, V> {
     /// ensures* writes_back { sem 𝓛 (lends_get K.row V.row self.entry (K.data_of key) result) }
     /// ensures value { option_copied_mut result ≡ map.get self.old.live (K.data_of key) }
     /// ```
+    ///
+    /// Words: [`live`](crate::words#live).
     #[inline]
     pub fn get_mut(&mut self, key: K) -> Option<&mut V> {
         match self.map.get_mut(key) {
@@ -452,6 +482,8 @@ impl<K: Key, V> BoundedMap<K, V> {
     /// ```text
     /// ensures { result ≡ map.keys self.now.live }
     /// ```
+    ///
+    /// Words: [`live`](crate::words#live).
     #[inline]
     pub fn keys(&self) -> Keys<'_, K, V> {
         self.map.keys()
@@ -471,6 +503,8 @@ impl<K: Key, V> BoundedMap<K, V> {
     /// ```text
     /// ensures { result ≡ map.entries self.now.live }
     /// ```
+    ///
+    /// Words: [`live`](crate::words#live).
     #[inline]
     pub fn iter(&self) -> Iter<'_, K, V> {
         self.map.iter()
@@ -497,6 +531,8 @@ impl<K: Key, V: Clone> BoundedMap<K, V> {
     /// ensures room { IfOk result (λ copy. copy.room ≡ self.now.room) }
     /// ensures valid { IfOk result (IsContent true) }
     /// ```
+    ///
+    /// Words: [`bound`](crate::words#bound), [`IsCloneBy`](crate::words#iscloneby), [`IsContent`](crate::words#iscontent), [`room`](crate::words#room-of-slotmap_core-content).
     #[inline]
     pub fn clone(&self) -> Result<Self, AllocError> {
         let mut map = self.map.clone()?;

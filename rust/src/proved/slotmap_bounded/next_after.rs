@@ -27,10 +27,13 @@ impl<K: Key, V> BoundedMap<K, V> {
     /// ```text
     /// ensures live { IfSome result (λ found. IsLive self.now (K.data_of found)) }
     /// ensures after { IfSome result (λ found. index_after K.data_of key ≤ (K.data_of found).index) }
-    /// ensures first { IfSome result (λ found. (other : KeyOf) → IsLive self.now other → index_after K.data_of key ≤ other.index → (K.data_of found).index ≤ other.index) }
+    /// ensures first { IfSome result (λ found. (other : KeyOf) → IsLive self.now other →
+    ///     index_after K.data_of key ≤ other.index → (K.data_of found).index ≤ other.index) }
     /// ensures none { IfNone result ((other : KeyOf) → IsLive self.now other → other.index < index_after K.data_of key) }
     /// ensures valid { IsContent true self.now }
     /// ```
+    ///
+    /// Words: [`index`](crate::words#index), [`index_after`](crate::words#index_after), [`IsContent`](crate::words#iscontent), [`IsLive`](crate::words#islive), [`Key`](crate::words#key).
     #[inline]
     pub fn next_after(&self, key: Option<K>) -> Option<K> {
         match self.map.next_after(key) {

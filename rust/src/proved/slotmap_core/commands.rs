@@ -9,12 +9,19 @@ use crate::rt::prelude::*;
 /// Each variant names its reply, a variant of [`Reply`]. `look`, `keep` and `make` are the closures
 /// that the run is given.
 ///
-/// ```ignore
+/// ```
+/// # use slotmap_proved::{DefaultKey, Global, Key, OutOfMemory};
+/// # use slotmap_proved::fallible::SlotMap;
+/// # use slotmap_proved::runs::{Command, Reply, run};
+/// # fn main() -> Result<(), Box<dyn std::error::Error>> {
+/// # let alloc = Global;
 /// let mut map: SlotMap<DefaultKey, u64> = SlotMap::new(alloc)?;
-/// let commands = vec![Command::Insert(5), Command::Len]?;
+/// let commands = vec![Command::Insert(5), Command::Len].into();
 /// let replies = run(alloc, &mut map, commands, |value| *value, |_, _| true, |_| Err(()))
 ///     .map_err(|_| OutOfMemory)?;
 /// assert!(matches!(replies[1], Reply::Len(1)));
+/// # Ok(())
+/// # }
 /// ```
 pub enum Command<K, V> {
     /// Inserts this value: `Key`; or `Full` or `Memory`, with the value.
@@ -46,14 +53,21 @@ pub enum Command<K, V> {
 
 /// A command to a map whose keys can be detached.
 ///
-/// ```ignore
+/// ```
+/// # use slotmap_proved::{DefaultKey, Global, Key, OutOfMemory};
+/// # use slotmap_proved::fallible::SlotMap;
+/// # use slotmap_proved::runs::{DetachCommand, Reply, run_detaching};
+/// # fn main() -> Result<(), Box<dyn std::error::Error>> {
+/// # let alloc = Global;
 /// let mut map: SlotMap<DefaultKey, u64> = SlotMap::new(alloc)?;
 /// let key = map.insert(5)?;
-/// let commands = vec![DetachCommand::Detach(key), DetachCommand::Reattach(key, 6)]?;
+/// let commands = vec![DetachCommand::Detach(key), DetachCommand::Reattach(key, 6)].into();
 /// let replies = run_detaching(alloc, &mut map, commands, |value| *value, |_, _| true, |_| Err(()))
 ///     .map_err(|_| OutOfMemory)?;
 /// assert!(matches!(replies[0], Reply::Taken(Some(5))));
 /// assert!(matches!(replies[1], Reply::Done));
+/// # Ok(())
+/// # }
 /// ```
 pub enum DetachCommand<K, V> {
     /// A command that every primary map has.
@@ -66,12 +80,19 @@ pub enum DetachCommand<K, V> {
 
 /// The reply to a command.
 ///
-/// ```ignore
+/// ```
+/// # use slotmap_proved::{DefaultKey, Global, Key, OutOfMemory};
+/// # use slotmap_proved::fallible::SlotMap;
+/// # use slotmap_proved::runs::{Command, Reply, run};
+/// # fn main() -> Result<(), Box<dyn std::error::Error>> {
+/// # let alloc = Global;
 /// let mut map: SlotMap<DefaultKey, u64> = SlotMap::new(alloc)?;
-/// let commands = vec![Command::Remove(DefaultKey::null())]?;
+/// let commands = vec![Command::Remove(DefaultKey::null())].into();
 /// let replies = run(alloc, &mut map, commands, |value| *value, |_, _| true, |_| Err(()))
 ///     .map_err(|_| OutOfMemory)?;
 /// assert!(matches!(replies[0], Reply::Taken(None)));
+/// # Ok(())
+/// # }
 /// ```
 pub enum Reply<K, V, R, E> {
     /// The new key.

@@ -15,18 +15,28 @@ use crate::rt::std::fmt::Display;
 
 /// Memory ran out.
 ///
-/// ```ignore
-/// assert_eq!(format!("{OutOfMemory}")?.as_str(), "out of memory");
+/// ```
+/// # use slotmap_proved::{Global, Key, OutOfMemory};
+/// # fn main() -> Result<(), Box<dyn std::error::Error>> {
+/// # let alloc = Global;
+/// assert_eq!(format!("{OutOfMemory}").as_str(), "out of memory");
+/// # Ok(())
+/// # }
 /// ```
 #[derive(Debug)]
 pub struct OutOfMemory;
 
 /// The error of an insert, with the value.
 ///
-/// ```ignore
+/// ```
+/// # use slotmap_proved::{Global, InsertError, Key};
+/// # fn main() -> Result<(), Box<dyn std::error::Error>> {
+/// # let alloc = Global;
 /// let error = InsertError::Full(5);
-/// assert_eq!(format!("{error}")?.as_str(), "full");
+/// assert_eq!(format!("{error}").as_str(), "full");
 /// assert!(matches!(error, InsertError::Full(5)));
+/// # Ok(())
+/// # }
 /// ```
 pub enum InsertError<V> {
     /// 4294967294 keys are live, detached or retired, as many as a map can have.
@@ -37,8 +47,13 @@ pub enum InsertError<V> {
 
 /// The error of an insert by a closure that returns a value. The closure wasn't called.
 ///
-/// ```ignore
-/// assert_eq!(format!("{}", InsertWithError::Full)?.as_str(), "full");
+/// ```
+/// # use slotmap_proved::{Global, InsertWithError, Key};
+/// # fn main() -> Result<(), Box<dyn std::error::Error>> {
+/// # let alloc = Global;
+/// assert_eq!(format!("{}", InsertWithError::Full).as_str(), "full");
+/// # Ok(())
+/// # }
 /// ```
 #[derive(Debug)]
 pub enum InsertWithError {
@@ -50,9 +65,14 @@ pub enum InsertWithError {
 
 /// The error of an insert by a closure that may fail. Only for `Closure` was the closure called.
 ///
-/// ```ignore
+/// ```
+/// # use slotmap_proved::{Global, Key, TryInsertError};
+/// # fn main() -> Result<(), Box<dyn std::error::Error>> {
+/// # let alloc = Global;
 /// let error: TryInsertError<&str> = TryInsertError::Closure("not now");
-/// assert_eq!(format!("{error}")?.as_str(), "not now");
+/// assert_eq!(format!("{error}").as_str(), "not now");
+/// # Ok(())
+/// # }
 /// ```
 pub enum TryInsertError<E> {
     /// 4294967294 keys are live, detached or retired, as many as a map can have.
@@ -65,10 +85,16 @@ pub enum TryInsertError<E> {
 
 /// The error of `reattach`, with the value.
 ///
-/// ```ignore
+/// ```
+/// # use slotmap_proved::{DefaultKey, Global, Key, ReattachError};
+/// # use slotmap_proved::fallible::SlotMap;
+/// # fn main() -> Result<(), Box<dyn std::error::Error>> {
+/// # let alloc = Global;
 /// let mut map: SlotMap<DefaultKey, u64> = SlotMap::new(alloc)?;
 /// let key = map.insert(5)?;
 /// assert!(matches!(map.reattach(key, 6), Err(ReattachError::NotDetached(6))));
+/// # Ok(())
+/// # }
 /// ```
 pub enum ReattachError<V> {
     /// The key isn't detached in this map.
@@ -79,9 +105,15 @@ pub enum ReattachError<V> {
 
 /// The error of a call that reserves room.
 ///
-/// ```ignore
+/// ```
+/// # use slotmap_proved::{DefaultKey, Global, Key, ReserveError};
+/// # use slotmap_proved::fallible::SlotMap;
+/// # fn main() -> Result<(), Box<dyn std::error::Error>> {
+/// # let alloc = Global;
 /// let mut map: SlotMap<DefaultKey, u64> = SlotMap::new(alloc)?;
 /// assert!(matches!(map.reserve(4294967295), Err(ReserveError::TooGreat)));
+/// # Ok(())
+/// # }
 /// ```
 #[derive(Debug)]
 pub enum ReserveError {
@@ -93,16 +125,26 @@ pub enum ReserveError {
 
 /// The error of an insert into a secondary map, with the value. Memory ran out.
 ///
-/// ```ignore
-/// assert_eq!(format!("{}", PutError(5))?.as_str(), "out of memory");
+/// ```
+/// # use slotmap_proved::{Global, Key, PutError};
+/// # fn main() -> Result<(), Box<dyn std::error::Error>> {
+/// # let alloc = Global;
+/// assert_eq!(format!("{}", PutError(5)).as_str(), "out of memory");
+/// # Ok(())
+/// # }
 /// ```
 pub struct PutError<V>(pub V);
 
 /// The error of a list of slots that isn't read as a map.
 ///
-/// ```ignore
+/// ```
+/// # use slotmap_proved::{Global, Key, SlotsError};
+/// # fn main() -> Result<(), Box<dyn std::error::Error>> {
+/// # let alloc = Global;
 /// let error = SlotsError::Inconsistent(3);
-/// assert_eq!(format!("{error}")?.as_str(), "inconsistent 3");
+/// assert_eq!(format!("{error}").as_str(), "inconsistent 3");
+/// # Ok(())
+/// # }
 /// ```
 #[derive(Debug)]
 pub enum SlotsError {
@@ -118,10 +160,16 @@ pub enum SlotsError {
 
 /// The error of JSON that isn't read as a key or as a list of slots.
 ///
-/// ```ignore
-/// let value = Value::from_str(alloc, "[1, 2]")?;
+/// ```
+/// # use slotmap_proved::{DefaultKey, Global, JsonError, Key};
+/// # use slotmap_proved::json::key_from_value;
+/// # fn main() -> Result<(), Box<dyn std::error::Error>> {
+/// # let alloc = Global;
+/// let value = serde_json::json!([1, 2]);
 /// let key: Result<DefaultKey, JsonError> = key_from_value(&value);
 /// assert!(matches!(key, Err(JsonError::Shape)));
+/// # Ok(())
+/// # }
 /// ```
 #[derive(Debug)]
 pub enum JsonError {
@@ -136,8 +184,13 @@ impl<V> InsertError<V> {
     ///
     /// Constant time.
     ///
-    /// ```ignore
+    /// ```
+    /// # use slotmap_proved::{Global, InsertError, Key};
+    /// # fn main() -> Result<(), Box<dyn std::error::Error>> {
+    /// # let alloc = Global;
     /// assert_eq!(InsertError::Full(5).into_inner(), 5);
+    /// # Ok(())
+    /// # }
     /// ```
     ///
     /// # Proved
@@ -145,6 +198,8 @@ impl<V> InsertError<V> {
     /// ```text
     /// ensures { result ≡ uninserted self }
     /// ```
+    ///
+    /// Words: [`uninserted`](crate::words#uninserted).
     #[inline]
     pub fn into_inner(self) -> V {
         match self {
@@ -158,9 +213,14 @@ impl<V> InsertError<V> {
     ///
     /// One call of the closure.
     ///
-    /// ```ignore
+    /// ```
+    /// # use slotmap_proved::{Global, InsertError, Key};
+    /// # fn main() -> Result<(), Box<dyn std::error::Error>> {
+    /// # let alloc = Global;
     /// let error = InsertError::Full((5, "five")).map(|pair| pair.0);
     /// assert!(matches!(error, InsertError::Full(5)));
+    /// # Ok(())
+    /// # }
     /// ```
     ///
     /// # Proved
@@ -169,6 +229,8 @@ impl<V> InsertError<V> {
     /// requires { F.pre f (uninserted self) }
     /// ensures { (w : W) × F.post f (uninserted self) w × (result ≡ with_uninserted self w) }
     /// ```
+    ///
+    /// Words: [`uninserted`](crate::words#uninserted), [`with_uninserted`](crate::words#with_uninserted).
     #[inline]
     pub fn map<W, F: FnOnce(V) -> W>(self, f: F) -> InsertError<W> {
         match self {
@@ -183,8 +245,13 @@ impl<V> ReattachError<V> {
     ///
     /// Constant time.
     ///
-    /// ```ignore
+    /// ```
+    /// # use slotmap_proved::{Global, Key, ReattachError};
+    /// # fn main() -> Result<(), Box<dyn std::error::Error>> {
+    /// # let alloc = Global;
     /// assert_eq!(ReattachError::NotDetached(5).into_inner(), 5);
+    /// # Ok(())
+    /// # }
     /// ```
     ///
     /// # Proved
@@ -192,6 +259,8 @@ impl<V> ReattachError<V> {
     /// ```text
     /// ensures { result ≡ unattached self }
     /// ```
+    ///
+    /// Words: [`unattached`](crate::words#unattached).
     #[inline]
     pub fn into_inner(self) -> V {
         match self {
@@ -204,9 +273,14 @@ impl<V> ReattachError<V> {
     ///
     /// One call of the closure.
     ///
-    /// ```ignore
+    /// ```
+    /// # use slotmap_proved::{Global, Key, ReattachError};
+    /// # fn main() -> Result<(), Box<dyn std::error::Error>> {
+    /// # let alloc = Global;
     /// let error = ReattachError::NotDetached((5, "five")).map(|pair| pair.0);
     /// assert!(matches!(error, ReattachError::NotDetached(5)));
+    /// # Ok(())
+    /// # }
     /// ```
     ///
     /// # Proved
@@ -215,6 +289,8 @@ impl<V> ReattachError<V> {
     /// requires { F.pre f (unattached self) }
     /// ensures { (w : W) × F.post f (unattached self) w × (result ≡ with_unattached self w) }
     /// ```
+    ///
+    /// Words: [`unattached`](crate::words#unattached), [`with_unattached`](crate::words#with_unattached).
     #[inline]
     pub fn map<W, F: FnOnce(V) -> W>(self, f: F) -> ReattachError<W> {
         match self {
@@ -229,8 +305,13 @@ impl<V> PutError<V> {
     ///
     /// One call of the closure.
     ///
-    /// ```ignore
+    /// ```
+    /// # use slotmap_proved::{Global, Key, PutError};
+    /// # fn main() -> Result<(), Box<dyn std::error::Error>> {
+    /// # let alloc = Global;
     /// assert_eq!(PutError((5, "five")).map(|pair| pair.0).0, 5);
+    /// # Ok(())
+    /// # }
     /// ```
     ///
     /// # Proved

@@ -12,14 +12,21 @@ use crate::rt::prelude::*;
 /// Each variant names its reply, a variant of [`JoinedReply`]. `look` is the closure that the run
 /// is given. If the number names no key, nothing changes, and the reply is `NoKey` or `NoKeySecond`.
 ///
-/// ```ignore
+/// ```
+/// # use slotmap_proved::{DefaultKey, Global, Key, OutOfMemory};
+/// # use slotmap_proved::fallible::{SecondaryMap, SlotMap};
+/// # use slotmap_proved::runs::{JoinedCommand, JoinedReply, run_joined};
+/// # fn main() -> Result<(), Box<dyn std::error::Error>> {
+/// # let alloc = Global;
 /// let mut map: SlotMap<DefaultKey, u64> = SlotMap::new(alloc)?;
 /// let mut side: SecondaryMap<DefaultKey, u64> = SecondaryMap::new(alloc)?;
-/// let commands = vec![JoinedCommand::Insert(5), JoinedCommand::Put(1, 6)]?;
+/// let commands = vec![JoinedCommand::Insert(5), JoinedCommand::Put(1, 6)].into();
 /// let replies = run_joined(alloc, &mut map, &mut side, commands, |value: &u64| *value)
 ///     .map_err(|_| OutOfMemory)?;
 /// assert!(matches!(replies[1], JoinedReply::Old(None)));
 /// assert_eq!(side.len(), 1);
+/// # Ok(())
+/// # }
 /// ```
 pub enum JoinedCommand<V, W> {
     /// Inserts this value into the primary map: `Key`; or `Full` or `Memory`, with the value.
@@ -38,14 +45,21 @@ pub enum JoinedCommand<V, W> {
 
 /// A command to a primary map whose keys can be detached and a secondary map beside it.
 ///
-/// ```ignore
+/// ```
+/// # use slotmap_proved::{DefaultKey, Global, Key, OutOfMemory};
+/// # use slotmap_proved::fallible::{SecondaryMap, SlotMap};
+/// # use slotmap_proved::runs::{JoinedCommand, JoinedDetachCommand, JoinedReply, run_joined_detaching};
+/// # fn main() -> Result<(), Box<dyn std::error::Error>> {
+/// # let alloc = Global;
 /// let mut map: SlotMap<DefaultKey, u64> = SlotMap::new(alloc)?;
 /// let mut side: SecondaryMap<DefaultKey, u64> = SecondaryMap::new(alloc)?;
 /// let insert = JoinedDetachCommand::Plain(JoinedCommand::Insert(5));
-/// let commands = vec![insert, JoinedDetachCommand::Detach(1)]?;
+/// let commands = vec![insert, JoinedDetachCommand::Detach(1)].into();
 /// let replies = run_joined_detaching(alloc, &mut map, &mut side, commands, |value: &u64| *value)
 ///     .map_err(|_| OutOfMemory)?;
 /// assert!(matches!(replies[1], JoinedReply::Taken(Some(5))));
+/// # Ok(())
+/// # }
 /// ```
 pub enum JoinedDetachCommand<V, W> {
     /// A command that every primary map has.
@@ -59,13 +73,20 @@ pub enum JoinedDetachCommand<V, W> {
 
 /// The reply to a joined command.
 ///
-/// ```ignore
+/// ```
+/// # use slotmap_proved::{DefaultKey, Global, Key, OutOfMemory};
+/// # use slotmap_proved::fallible::{SecondaryMap, SlotMap};
+/// # use slotmap_proved::runs::{JoinedCommand, JoinedReply, run_joined};
+/// # fn main() -> Result<(), Box<dyn std::error::Error>> {
+/// # let alloc = Global;
 /// let mut map: SlotMap<DefaultKey, u64> = SlotMap::new(alloc)?;
 /// let mut side: SecondaryMap<DefaultKey, u64> = SecondaryMap::new(alloc)?;
-/// let commands = vec![JoinedCommand::Take(1)]?;
+/// let commands = vec![JoinedCommand::Take(1)].into();
 /// let replies = run_joined(alloc, &mut map, &mut side, commands, |value: &u64| *value)
 ///     .map_err(|_| OutOfMemory)?;
 /// assert!(matches!(replies[0], JoinedReply::NoKey));
+/// # Ok(())
+/// # }
 /// ```
 pub enum JoinedReply<K, V, W, R> {
     /// The new key.

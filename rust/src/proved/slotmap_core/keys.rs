@@ -23,11 +23,16 @@ pub use node_key::NodeKey;
 /// - The debug text is `null`, or the index, `v` and the version.
 /// - The default is the null key.
 ///
-/// ```ignore
+/// ```
+/// # use slotmap_proved::{Global, Key, KeyData};
+/// # fn main() -> Result<(), Box<dyn std::error::Error>> {
+/// # let alloc = Global;
 /// let data = KeyData::new(2, 3);
-/// assert_eq!(format!("{data:?}")?.as_str(), "2v3");
+/// assert_eq!(format!("{data:?}").as_str(), "2v3");
 /// assert!(data < KeyData::new(2, 5));
 /// assert!(data < KeyData::default());
+/// # Ok(())
+/// # }
 /// ```
 #[derive(Clone, Copy, PartialEq, Eq, PartialOrd, Ord)]
 pub struct KeyData {
@@ -42,9 +47,14 @@ impl KeyData {
     /// whatever the version. The result is that of `from_ffi` at `version * 2^32 + idx`. Constant
     /// time. Rust lacks this call.
     ///
-    /// ```ignore
+    /// ```
+    /// # use slotmap_proved::{Global, Key, KeyData};
+    /// # fn main() -> Result<(), Box<dyn std::error::Error>> {
+    /// # let alloc = Global;
     /// assert_eq!(KeyData::new(2, 4), KeyData::new(2, 5));
     /// assert_eq!(KeyData::new(4294967295, 9), KeyData::default());
+    /// # Ok(())
+    /// # }
     /// ```
     ///
     /// # Proved
@@ -53,6 +63,8 @@ impl KeyData {
     /// ensures value { result ≡ key_from idx version }
     /// ensures valid { IsKey result }
     /// ```
+    ///
+    /// Words: [`IsKey`](crate::words#iskey), [`key_from`](crate::words#key_from).
     #[inline]
     pub fn new(idx: u32, version: u32) -> KeyData {
         if idx == u32::MAX {
@@ -70,8 +82,13 @@ impl KeyData {
     /// contract asks for an odd version and, at the greatest index, for version 1. In contrast to
     /// `new` nothing is tested or changed. Constant time. Rust lacks this call.
     ///
-    /// ```ignore
+    /// ```
+    /// # use slotmap_proved::{Global, Key, KeyData};
+    /// # fn main() -> Result<(), Box<dyn std::error::Error>> {
+    /// # let alloc = Global;
     /// assert_eq!(KeyData::exact(2, 3), KeyData::new(2, 3));
+    /// # Ok(())
+    /// # }
     /// ```
     ///
     /// # Proved
@@ -80,6 +97,8 @@ impl KeyData {
     /// requires { IsKey (record { index = idx; version = version }) }
     /// ensures { result ≡ record { index = idx; version = version } }
     /// ```
+    ///
+    /// Words: [`IsKey`](crate::words#iskey).
     #[inline]
     pub(crate) fn exact(idx: u32, version: u32) -> KeyData {
         KeyData { idx, version }
@@ -89,9 +108,14 @@ impl KeyData {
     ///
     /// Constant time. Rust lacks this call.
     ///
-    /// ```ignore
+    /// ```
+    /// # use slotmap_proved::{Global, Key, KeyData};
+    /// # fn main() -> Result<(), Box<dyn std::error::Error>> {
+    /// # let alloc = Global;
     /// assert_eq!(KeyData::new(2, 3).idx(), 2);
     /// assert_eq!(KeyData::default().idx(), 4294967295);
+    /// # Ok(())
+    /// # }
     /// ```
     ///
     /// # Proved
@@ -100,6 +124,8 @@ impl KeyData {
     /// ensures value { result ≡ self.index }
     /// ensures valid { IsKey self }
     /// ```
+    ///
+    /// Words: [`index`](crate::words#index), [`IsKey`](crate::words#iskey).
     #[inline]
     pub fn idx(self) -> u32 {
         self.idx
@@ -109,9 +135,14 @@ impl KeyData {
     ///
     /// Constant time. Rust lacks this call.
     ///
-    /// ```ignore
+    /// ```
+    /// # use slotmap_proved::{Global, Key, KeyData};
+    /// # fn main() -> Result<(), Box<dyn std::error::Error>> {
+    /// # let alloc = Global;
     /// assert_eq!(KeyData::new(2, 3).version(), 3);
     /// assert_eq!(KeyData::default().version(), 1);
+    /// # Ok(())
+    /// # }
     /// ```
     ///
     /// # Proved
@@ -120,6 +151,8 @@ impl KeyData {
     /// ensures value { result ≡ self.version }
     /// ensures valid { IsKey self }
     /// ```
+    ///
+    /// Words: [`IsKey`](crate::words#iskey), [`version`](crate::words#version).
     #[inline]
     pub fn version(self) -> u32 {
         self.version
@@ -130,9 +163,14 @@ impl KeyData {
     /// Code in other languages can hold a key as this number. `from_ffi` returns the key again.
     /// Constant time.
     ///
-    /// ```ignore
+    /// ```
+    /// # use slotmap_proved::{Global, Key, KeyData};
+    /// # fn main() -> Result<(), Box<dyn std::error::Error>> {
+    /// # let alloc = Global;
     /// assert_eq!(KeyData::new(1, 3).as_ffi(), 12884901889);
     /// assert_eq!(KeyData::default().as_ffi(), 8589934591);
+    /// # Ok(())
+    /// # }
     /// ```
     ///
     /// # Proved
@@ -141,6 +179,8 @@ impl KeyData {
     /// ensures value { result ≡ ffi self }
     /// ensures valid { IsKey self }
     /// ```
+    ///
+    /// Words: [`ffi`](crate::words#ffi), [`IsKey`](crate::words#iskey).
     #[inline]
     pub fn as_ffi(self) -> u64 {
         u64::from(self.version) << 32 | u64::from(self.idx)
@@ -152,9 +192,14 @@ impl KeyData {
     /// lowest bit set, are the version. If the index is 4294967295, the version becomes 1, so there
     /// is one null key. Rust keeps the version there, so its null keys can differ. Constant time.
     ///
-    /// ```ignore
+    /// ```
+    /// # use slotmap_proved::{Global, Key, KeyData};
+    /// # fn main() -> Result<(), Box<dyn std::error::Error>> {
+    /// # let alloc = Global;
     /// assert_eq!(KeyData::from_ffi(12884901889), KeyData::new(1, 3));
     /// assert_eq!(KeyData::from_ffi(17179869183), KeyData::default());
+    /// # Ok(())
+    /// # }
     /// ```
     ///
     /// # Proved
@@ -164,6 +209,8 @@ impl KeyData {
     /// ensures round_trip { (k : KeyOf) → IsKey k → value ≡ ffi k → result ≡ k }
     /// ensures valid { IsKey result }
     /// ```
+    ///
+    /// Words: [`ffi`](crate::words#ffi), [`IsKey`](crate::words#iskey), [`Key`](crate::words#key), [`key_from`](crate::words#key_from).
     #[inline]
     pub fn from_ffi(value: u64) -> KeyData {
         KeyData::new((value & 0xffff_ffff) as u32, (value >> 32) as u32)
@@ -175,10 +222,15 @@ impl KeyData {
 /// It is older if `(a - b) mod 2^32` is at least 2^31. So at a distance of exactly 2^31 each of the
 /// two is older than the other. Constant time. In Rust it is private.
 ///
-/// ```ignore
+/// ```
+/// # use slotmap_proved::{Global, is_older_version, Key};
+/// # fn main() -> Result<(), Box<dyn std::error::Error>> {
+/// # let alloc = Global;
 /// assert!(is_older_version(1, 3));
 /// assert!(is_older_version(4294967295, 0));
 /// assert!(!is_older_version(3, 3));
+/// # Ok(())
+/// # }
 /// ```
 ///
 /// # Proved
@@ -186,6 +238,8 @@ impl KeyData {
 /// ```text
 /// ensures { result ≡ is_older a b }
 /// ```
+///
+/// Words: [`is_older`](crate::words#is_older).
 #[inline]
 pub fn is_older_version(a: u32, b: u32) -> bool {
     a.wrapping_sub(b) >= 1 << 31
@@ -232,10 +286,15 @@ impl fmt::Debug for KeyData {
 /// - keys are equal, ordered and hashed as their data are
 /// - the default is the null key
 ///
-/// ```ignore
+/// ```
+/// # use slotmap_proved::{Global, Key, KeyData, NodeKey};
+/// # fn main() -> Result<(), Box<dyn std::error::Error>> {
+/// # let alloc = Global;
 /// let key = NodeKey::from(KeyData::new(2, 3));
 /// assert_eq!(key.data(), KeyData::new(2, 3));
 /// assert!(key < NodeKey::null());
+/// # Ok(())
+/// # }
 /// ```
 ///
 /// In Rattle each impl is proved to do what the clauses here say. In Rust nothing checks that. An impl that answers otherwise from call to call, or whose `Eq`, `Ord` and `Hash` don't follow `data`, spoils the maps that it is a key of: a call may then return another value than the one under a key, or panic. It breaks no other map.
@@ -248,9 +307,14 @@ pub trait Key: From<KeyData> + Copy + Default + Eq + Ord + Hash + fmt::Debug {
     ///
     /// It is the default, too. Constant time.
     ///
-    /// ```ignore
+    /// ```
+    /// # use slotmap_proved::{DefaultKey, Global, Key, KeyData};
+    /// # fn main() -> Result<(), Box<dyn std::error::Error>> {
+    /// # let alloc = Global;
     /// assert_eq!(DefaultKey::null(), DefaultKey::default());
     /// assert_eq!(DefaultKey::null().data(), KeyData::new(4294967295, 1));
+    /// # Ok(())
+    /// # }
     /// ```
     ///
     /// # Proved
@@ -258,15 +322,22 @@ pub trait Key: From<KeyData> + Copy + Default + Eq + Ord + Hash + fmt::Debug {
     /// ```text
     /// ensures { data_of result ≡ null_key }
     /// ```
+    ///
+    /// Words: [`null_key`](crate::words#null_key).
     fn null() -> Self;
 
     /// Returns whether this is the null key.
     ///
     /// Constant time.
     ///
-    /// ```ignore
+    /// ```
+    /// # use slotmap_proved::{DefaultKey, Global, Key, KeyData};
+    /// # fn main() -> Result<(), Box<dyn std::error::Error>> {
+    /// # let alloc = Global;
     /// assert!(DefaultKey::null().is_null());
     /// assert!(!DefaultKey::from(KeyData::new(1, 1)).is_null());
+    /// # Ok(())
+    /// # }
     /// ```
     ///
     /// # Proved
@@ -274,16 +345,23 @@ pub trait Key: From<KeyData> + Copy + Default + Eq + Ord + Hash + fmt::Debug {
     /// ```text
     /// ensures { IsTrue result ↔ data_of self.now ≡ null_key }
     /// ```
+    ///
+    /// Words: [`null_key`](crate::words#null_key).
     fn is_null(&self) -> bool;
 
     /// Returns the data of this key, of which `from` makes the key again.
     ///
     /// Constant time.
     ///
-    /// ```ignore
+    /// ```
+    /// # use slotmap_proved::{DefaultKey, Global, Key, KeyData};
+    /// # fn main() -> Result<(), Box<dyn std::error::Error>> {
+    /// # let alloc = Global;
     /// let key = DefaultKey::from(KeyData::new(2, 3));
     /// assert_eq!(key.data().idx(), 2);
     /// assert_eq!(DefaultKey::from(key.data()), key);
+    /// # Ok(())
+    /// # }
     /// ```
     ///
     /// # Proved
@@ -292,15 +370,23 @@ pub trait Key: From<KeyData> + Copy + Default + Eq + Ord + Hash + fmt::Debug {
     /// ensures value { result ≡ data_of self.now }
     /// ensures valid { IsKey result }
     /// ```
+    ///
+    /// Words: [`IsKey`](crate::words#iskey).
     fn data(&self) -> KeyData;
 }
 
 /// The key type of a map that names no other.
 ///
-/// ```ignore
+/// ```
+/// # use slotmap_proved::{DefaultKey, Global, Key};
+/// # use slotmap_proved::fallible::SlotMap;
+/// # fn main() -> Result<(), Box<dyn std::error::Error>> {
+/// # let alloc = Global;
 /// let mut map: SlotMap<DefaultKey, u64> = SlotMap::new(alloc)?;
 /// let key: DefaultKey = map.insert(5)?;
 /// assert_eq!(map.get(key), Some(&5));
+/// # Ok(())
+/// # }
 /// ```
 #[derive(Clone, Copy, PartialEq, Eq, PartialOrd, Ord, Hash, Debug)]
 pub struct DefaultKey(KeyData);

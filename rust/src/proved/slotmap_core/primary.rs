@@ -24,11 +24,17 @@ use crate::rt::std::alloc::Global;
 /// that the map then holds the same keys and values. A call on one key takes constant time, unless
 /// the vectors grow. The methods of each map say more about cost. Rust lacks this trait.
 ///
-/// ```ignore
+/// ```
+/// # use slotmap_proved::{DefaultKey, Global, Key, Primary};
+/// # use slotmap_proved::fallible::SlotMap;
+/// # fn main() -> Result<(), Box<dyn std::error::Error>> {
+/// # let alloc = Global;
 /// let mut map: SlotMap<DefaultKey, u64> = Primary::with_key(alloc)?;
 /// let key = Primary::insert(&mut map, 5)?;
 /// assert_eq!(Primary::get(&map, key), Some(&5));
 /// assert_eq!(Primary::remove(&mut map, key), Some(5));
+/// # Ok(())
+/// # }
 /// ```
 ///
 /// In Rattle each impl is proved to do what the clauses here say. In Rust nothing checks that. An impl that does otherwise spoils the runs and searches that are given it.
@@ -45,9 +51,15 @@ pub trait Primary<K: Key, V>: Sized {
     ///
     /// It fails only if memory runs out.
     ///
-    /// ```ignore
+    /// ```
+    /// # use slotmap_proved::{Global, Key, NodeKey, Primary};
+    /// # use slotmap_proved::fallible::SlotMap;
+    /// # fn main() -> Result<(), Box<dyn std::error::Error>> {
+    /// # let alloc = Global;
     /// let map: SlotMap<NodeKey, u64> = Primary::with_key(alloc)?;
     /// assert!(map.is_empty());
+    /// # Ok(())
+    /// # }
     /// ```
     ///
     /// # Proved
@@ -58,6 +70,8 @@ pub trait Primary<K: Key, V>: Sized {
     /// ensures err { IfErr result (RefusesCapacity 0) }
     /// ensures valid { IfOk result (λ m. IsContent REUSES (content m)) }
     /// ```
+    ///
+    /// Words: [`IsContent`](crate::words#iscontent), [`IsNew`](crate::words#isnew), [`RefusesCapacity`](crate::words#refusescapacity), [`stack`](crate::words#stack).
     fn with_key(alloc: Global) -> Result<Self, ReserveError>;
 
     /// Makes an empty map with room for `capacity` keys.
@@ -65,9 +79,15 @@ pub trait Primary<K: Key, V>: Sized {
     /// The next `capacity` inserts succeed. It fails with `TooGreat` if `capacity` is over
     /// 4294967294, and with `Memory` if memory runs out.
     ///
-    /// ```ignore
+    /// ```
+    /// # use slotmap_proved::{Global, Key, NodeKey, Primary};
+    /// # use slotmap_proved::fallible::SlotMap;
+    /// # fn main() -> Result<(), Box<dyn std::error::Error>> {
+    /// # let alloc = Global;
     /// let map: SlotMap<NodeKey, u64> = Primary::with_capacity_and_key(alloc, 10)?;
     /// assert!(map.capacity() >= 10);
+    /// # Ok(())
+    /// # }
     /// ```
     ///
     /// # Proved
@@ -75,19 +95,28 @@ pub trait Primary<K: Key, V>: Sized {
     /// ```text
     /// ensures starts { IfOk result (λ m. IsNew (content m)) }
     /// ensures stack { IfOk result (λ m. STACKED ≡ true → IsSome (content m).stack) }
+    ///
     /// ensures room { IfOk result (λ m. capacity ≤ (content m).room) }
     /// ensures capacity { IfOk result (λ m. capacity ≤ (content m).capacity) }
     /// ensures err { IfErr result (RefusesCapacity capacity) }
     /// ensures valid { IfOk result (λ m. IsContent REUSES (content m)) }
     /// ```
+    ///
+    /// Words: [`capacity`](crate::words#capacity-of-slotmap_core-content), [`IsContent`](crate::words#iscontent), [`IsNew`](crate::words#isnew), [`RefusesCapacity`](crate::words#refusescapacity), [`room`](crate::words#room-of-slotmap_core-content), [`stack`](crate::words#stack).
     fn with_capacity_and_key(alloc: Global, capacity: usize) -> Result<Self, ReserveError>;
 
     /// Returns the number of live keys.
     ///
-    /// ```ignore
+    /// ```
+    /// # use slotmap_proved::{DefaultKey, Global, Key, Primary};
+    /// # use slotmap_proved::fallible::SlotMap;
+    /// # fn main() -> Result<(), Box<dyn std::error::Error>> {
+    /// # let alloc = Global;
     /// let mut map: SlotMap<DefaultKey, u64> = SlotMap::new(alloc)?;
     /// map.insert(5)?;
     /// assert_eq!(Primary::len(&map), 1);
+    /// # Ok(())
+    /// # }
     /// ```
     ///
     /// # Proved
@@ -96,13 +125,21 @@ pub trait Primary<K: Key, V>: Sized {
     /// ensures value { result ≡ map.len (content self.now).live }
     /// ensures valid { IsContent REUSES (content self.now) }
     /// ```
+    ///
+    /// Words: [`IsContent`](crate::words#iscontent), [`live`](crate::words#live).
     fn len(&self) -> usize;
 
     /// Returns whether no key is live.
     ///
-    /// ```ignore
+    /// ```
+    /// # use slotmap_proved::{DefaultKey, Global, Key, Primary};
+    /// # use slotmap_proved::fallible::SlotMap;
+    /// # fn main() -> Result<(), Box<dyn std::error::Error>> {
+    /// # let alloc = Global;
     /// let map: SlotMap<DefaultKey, u64> = SlotMap::new(alloc)?;
     /// assert!(Primary::is_empty(&map));
+    /// # Ok(())
+    /// # }
     /// ```
     ///
     /// # Proved
@@ -111,6 +148,8 @@ pub trait Primary<K: Key, V>: Sized {
     /// ensures value { IsTrue result ↔ map.len (content self.now).live ≡ 0 }
     /// ensures valid { IsContent REUSES (content self.now) }
     /// ```
+    ///
+    /// Words: [`IsContent`](crate::words#iscontent), [`live`](crate::words#live).
     fn is_empty(&self) -> bool;
 
     /// Returns for how many keys memory is allocated.
@@ -118,9 +157,15 @@ pub trait Primary<K: Key, V>: Sized {
     /// It is at least the number of live keys plus those that there is room for. Each map says what
     /// it counts.
     ///
-    /// ```ignore
+    /// ```
+    /// # use slotmap_proved::{DefaultKey, Global, Key, Primary};
+    /// # use slotmap_proved::fallible::SlotMap;
+    /// # fn main() -> Result<(), Box<dyn std::error::Error>> {
+    /// # let alloc = Global;
     /// let map: SlotMap<DefaultKey, u64> = SlotMap::with_capacity(alloc, 10)?;
     /// assert!(Primary::capacity(&map) >= 10);
+    /// # Ok(())
+    /// # }
     /// ```
     ///
     /// # Proved
@@ -129,17 +174,25 @@ pub trait Primary<K: Key, V>: Sized {
     /// ensures value { result ≡ (content self.now).capacity }
     /// ensures valid { IsContent REUSES (content self.now) }
     /// ```
+    ///
+    /// Words: [`capacity`](crate::words#capacity-of-slotmap_core-content), [`IsContent`](crate::words#iscontent).
     fn capacity(&self) -> usize;
 
     /// Returns whether this key is live.
     ///
     /// A removed or detached key isn't live, nor is the null key.
     ///
-    /// ```ignore
+    /// ```
+    /// # use slotmap_proved::{DefaultKey, Global, Key, Primary};
+    /// # use slotmap_proved::fallible::SlotMap;
+    /// # fn main() -> Result<(), Box<dyn std::error::Error>> {
+    /// # let alloc = Global;
     /// let mut map: SlotMap<DefaultKey, u64> = SlotMap::new(alloc)?;
     /// let key = map.insert(5)?;
     /// assert!(Primary::contains_key(&map, key));
     /// assert!(!Primary::contains_key(&map, DefaultKey::null()));
+    /// # Ok(())
+    /// # }
     /// ```
     ///
     /// # Proved
@@ -148,15 +201,23 @@ pub trait Primary<K: Key, V>: Sized {
     /// ensures value { result ≡ map.contains_key (content self.now).live (K.data_of key) }
     /// ensures valid { IsContent REUSES (content self.now) }
     /// ```
+    ///
+    /// Words: [`IsContent`](crate::words#iscontent), [`live`](crate::words#live).
     fn contains_key(&self, key: K) -> bool;
 
     /// Returns the value of a live key, or `None` if the key isn't live.
     ///
-    /// ```ignore
+    /// ```
+    /// # use slotmap_proved::{DefaultKey, Global, Key, Primary};
+    /// # use slotmap_proved::fallible::SlotMap;
+    /// # fn main() -> Result<(), Box<dyn std::error::Error>> {
+    /// # let alloc = Global;
     /// let mut map: SlotMap<DefaultKey, u64> = SlotMap::new(alloc)?;
     /// let key = map.insert(5)?;
     /// assert_eq!(Primary::get(&map, key), Some(&5));
     /// assert_eq!(Primary::get(&map, DefaultKey::null()), None);
+    /// # Ok(())
+    /// # }
     /// ```
     ///
     /// # Proved
@@ -165,6 +226,8 @@ pub trait Primary<K: Key, V>: Sized {
     /// ensures value { option_copied result ≡ map.get (content self.now).live (K.data_of key) }
     /// ensures valid { IsContent REUSES (content self.now) }
     /// ```
+    ///
+    /// Words: [`IsContent`](crate::words#iscontent), [`live`](crate::words#live).
     fn get(&self, key: K) -> Option<&V>;
 
     /// Inserts a value and returns its new key.
@@ -173,21 +236,32 @@ pub trait Primary<K: Key, V>: Sized {
     /// memory runs out. The error holds the value. If there is room for one more key, the capacity
     /// stays.
     ///
-    /// ```ignore
+    /// ```
+    /// # use slotmap_proved::{DefaultKey, Global, Key, Primary};
+    /// # use slotmap_proved::fallible::SlotMap;
+    /// # fn main() -> Result<(), Box<dyn std::error::Error>> {
+    /// # let alloc = Global;
     /// let mut map: SlotMap<DefaultKey, u64> = SlotMap::new(alloc)?;
     /// let key = Primary::insert(&mut map, 5)?;
     /// assert_eq!(map.get(key), Some(&5));
+    /// # Ok(())
+    /// # }
     /// ```
     ///
     /// # Proved
     ///
     /// ```text
-    /// ensures ok { IfOk result (λ key. Inserts (content self.old) (K.data_of key) value (content self.new)) }
+    /// ensures ok { IfOk result (λ key.
+    ///     Inserts (content self.old) (K.data_of key) value (content self.new)) }
     /// ensures err { IfErr result (λ error. Refuses (content self.old) value error) }
+    ///
     /// // If a slot is vacant, in a map with `REUSES`, the call can't fail.
     /// ensures reuses { REUSES ≡ true → HasVacant (content self.old) → IsOk result }
+    ///
     /// ensures valid { MayGrow REUSES (content self.old) (IsErr result) (content self.new) }
     /// ```
+    ///
+    /// Words: [`HasVacant`](crate::words#hasvacant), [`Inserts`](crate::words#inserts), [`MayGrow`](crate::words#maygrow), [`Refuses`](crate::words#refuses).
     fn insert(&mut self, value: V) -> Result<K, InsertError<V>>;
 
     /// Removes a live key and returns its value, or `None` if the key isn't live.
@@ -195,22 +269,31 @@ pub trait Primary<K: Key, V>: Sized {
     /// Its slot becomes vacant; after the slot's last key it is retired. The call allocates
     /// nothing.
     ///
-    /// ```ignore
+    /// ```
+    /// # use slotmap_proved::{DefaultKey, Global, Key, Primary};
+    /// # use slotmap_proved::fallible::SlotMap;
+    /// # fn main() -> Result<(), Box<dyn std::error::Error>> {
+    /// # let alloc = Global;
     /// let mut map: SlotMap<DefaultKey, u64> = SlotMap::new(alloc)?;
     /// let key = map.insert(5)?;
     /// assert_eq!(Primary::remove(&mut map, key), Some(5));
     /// assert_eq!(Primary::remove(&mut map, key), None);
+    /// # Ok(())
+    /// # }
     /// ```
     ///
     /// # Proved
     ///
     /// ```text
     /// ensures value { result ≡ map.get (content self.old).live (K.data_of key) }
-    /// ensures removes { OnSome result (Removes (content self.old) (K.data_of key) (content self.new)) }
+    /// ensures removes { OnSome result
+    ///     (Removes (content self.old) (K.data_of key) (content self.new)) }
     /// ensures unchanged { IfNone result (content self.new ≡ content self.old) }
     /// ensures live { (content self.new).live ≡ map.remove (content self.old).live (K.data_of key) }
     /// ensures valid { StaysValid REUSES (content self.old) (content self.new) }
     /// ```
+    ///
+    /// Words: [`live`](crate::words#live), [`Removes`](crate::words#removes), [`StaysValid`](crate::words#staysvalid).
     fn remove(&mut self, key: K) -> Option<V>;
 
     /// Inserts the value that a closure returns for the new key, and returns the key.
@@ -220,25 +303,39 @@ pub trait Primary<K: Key, V>: Sized {
     /// insert uses the same key. The other errors are those of `insert`; for these the closure isn't
     /// called.
     ///
-    /// ```ignore
+    /// ```
+    /// # use slotmap_proved::{DefaultKey, Global, Key, Primary, TryInsertError};
+    /// # use slotmap_proved::fallible::SlotMap;
+    /// # fn main() -> Result<(), Box<dyn std::error::Error>> {
+    /// # let alloc = Global;
     /// let mut map: SlotMap<DefaultKey, u64> = SlotMap::new(alloc)?;
     /// let made: Result<DefaultKey, TryInsertError<u64>> =
     ///     Primary::try_insert_with_key(&mut map, |_| Err(7));
     /// assert!(matches!(made, Err(TryInsertError::Closure(7))));
     /// assert!(map.is_empty());
+    /// # Ok(())
+    /// # }
     /// ```
     ///
     /// # Proved
     ///
     /// ```text
     /// // It is called if there is a slot, with the key that the value will have.
-    /// requires { used (content self.old) < most → (key : K) → K.data_of key ≡ (content self.old).offer → F.pre f key }
-    /// ensures ok { IfOk result (λ key. (v : V) × F.post f key (Ok v) × Inserts (content self.old) (K.data_of key) v (content self.new)) }
-    /// ensures err { IfErr result (λ error. RefusesWith K.data_of (F.post f) (content self.old) error) }
+    /// requires { used (content self.old) < most → (key : K) →
+    ///     K.data_of key ≡ (content self.old).offer → F.pre f key }
+    ///
+    /// ensures ok { IfOk result (λ key. (v : V) × F.post f key (Ok v)
+    ///     × Inserts (content self.old) (K.data_of key) v (content self.new)) }
+    /// ensures err { IfErr result (λ error.
+    ///     RefusesWith K.data_of (F.post f) (content self.old) error) }
+    ///
     /// // If a slot is vacant, in a map with `REUSES`, memory can't run out.
     /// ensures reuses { REUSES ≡ true → HasVacant (content self.old) → (result ≡ Err TryInsertError.Memory → ⊥) }
+    ///
     /// ensures valid { MayGrow REUSES (content self.old) (IsErr result) (content self.new) }
     /// ```
+    ///
+    /// Words: [`HasVacant`](crate::words#hasvacant), [`Inserts`](crate::words#inserts), [`MayGrow`](crate::words#maygrow), [`most`](crate::words#most), [`offer`](crate::words#offer), [`RefusesWith`](crate::words#refuseswith), [`used`](crate::words#used).
     fn try_insert_with_key<E, F: FnOnce(K) -> Result<V, E>>(
         &mut self,
         f: F,
@@ -250,23 +347,36 @@ pub trait Primary<K: Key, V>: Sized {
     ///
     /// It behaves as `try_insert_with_key`, with a closure that can't fail.
     ///
-    /// ```ignore
+    /// ```
+    /// # use slotmap_proved::{DefaultKey, Global, Key, Primary};
+    /// # use slotmap_proved::fallible::SlotMap;
+    /// # fn main() -> Result<(), Box<dyn std::error::Error>> {
+    /// # let alloc = Global;
     /// let mut map: SlotMap<DefaultKey, u64> = SlotMap::new(alloc)?;
     /// let key = Primary::insert_with_key(&mut map, |key: DefaultKey| key.data().as_ffi())?;
     /// assert_eq!(map.get(key), Some(&key.data().as_ffi()));
+    /// # Ok(())
+    /// # }
     /// ```
     ///
     /// # Proved
     ///
     /// ```text
     /// // It is called if there is a slot, with the key that the value will have.
-    /// requires { used (content self.old) < most → (key : K) → K.data_of key ≡ (content self.old).offer → F.pre f key }
-    /// ensures ok { IfOk result (λ key. (v : V) × F.post f key v × Inserts (content self.old) (K.data_of key) v (content self.new)) }
+    /// requires { used (content self.old) < most → (key : K) →
+    ///     K.data_of key ≡ (content self.old).offer → F.pre f key }
+    ///
+    /// ensures ok { IfOk result (λ key. (v : V) × F.post f key v
+    ///     × Inserts (content self.old) (K.data_of key) v (content self.new)) }
     /// ensures err { IfErr result (RefusesInsert (content self.old)) }
+    ///
     /// // If a slot is vacant, in a map with `REUSES`, the call can't fail.
     /// ensures reuses { REUSES ≡ true → HasVacant (content self.old) → IsOk result }
+    ///
     /// ensures valid { MayGrow REUSES (content self.old) (IsErr result) (content self.new) }
     /// ```
+    ///
+    /// Words: [`HasVacant`](crate::words#hasvacant), [`Inserts`](crate::words#inserts), [`MayGrow`](crate::words#maygrow), [`most`](crate::words#most), [`offer`](crate::words#offer), [`RefusesInsert`](crate::words#refusesinsert), [`used`](crate::words#used).
     fn insert_with_key<F: FnOnce(K) -> V>(&mut self, f: F) -> Result<K, InsertWithError>
     where
         F: Sized,;
@@ -276,22 +386,33 @@ pub trait Primary<K: Key, V>: Sized {
     /// If the key isn't live, nothing changes, and the new value is returned as the error. The call
     /// allocates nothing.
     ///
-    /// ```ignore
+    /// ```
+    /// # use slotmap_proved::{DefaultKey, Global, Key, Primary};
+    /// # use slotmap_proved::fallible::SlotMap;
+    /// # fn main() -> Result<(), Box<dyn std::error::Error>> {
+    /// # let alloc = Global;
     /// let mut map: SlotMap<DefaultKey, u64> = SlotMap::new(alloc)?;
     /// let key = map.insert(5)?;
     /// assert_eq!(Primary::replace(&mut map, key, 6), Ok(5));
     /// assert_eq!(Primary::replace(&mut map, DefaultKey::null(), 7), Err(7));
+    /// # Ok(())
+    /// # }
     /// ```
     ///
     /// # Proved
     ///
     /// ```text
-    /// ensures ok { IfOk result (λ before. map.get (content self.old).live (K.data_of key) ≡ Some before) }
-    /// ensures replaces { OnOk result (content self.new ≡ with_value (content self.old) (K.data_of key) value) }
-    /// ensures err { IfErr result (λ back. map.contains_key (content self.old).live (K.data_of key) ≡ false × back ≡ value) }
+    /// ensures ok { IfOk result (λ before.
+    ///     map.get (content self.old).live (K.data_of key) ≡ Some before) }
+    /// ensures replaces { OnOk result
+    ///     (content self.new ≡ with_value (content self.old) (K.data_of key) value) }
+    /// ensures err { IfErr result (λ back.
+    ///     map.contains_key (content self.old).live (K.data_of key) ≡ false × back ≡ value) }
     /// ensures unchanged { OnErr result (content self.new ≡ content self.old) }
     /// ensures valid { StaysValid REUSES (content self.old) (content self.new) }
     /// ```
+    ///
+    /// Words: [`live`](crate::words#live), [`StaysValid`](crate::words#staysvalid), [`with_value`](crate::words#with_value-of-slotmap_core-transition).
     fn replace(&mut self, key: K, value: V) -> Result<V, V>;
 
     /// Reserves room for `additional` more keys.
@@ -301,36 +422,56 @@ pub trait Primary<K: Key, V>: Sized {
     /// memory runs out. Then the map holds what it held; its room and its capacity may be greater. If
     /// there is room already, the call succeeds and nothing changes.
     ///
-    /// ```ignore
+    /// ```
+    /// # use slotmap_proved::{DefaultKey, Global, Key, Primary};
+    /// # use slotmap_proved::fallible::SlotMap;
+    /// # fn main() -> Result<(), Box<dyn std::error::Error>> {
+    /// # let alloc = Global;
     /// let mut map: SlotMap<DefaultKey, u64> = SlotMap::new(alloc)?;
     /// Primary::reserve(&mut map, 10)?;
     /// assert!(map.capacity() >= 10);
+    /// # Ok(())
+    /// # }
     /// ```
     ///
     /// # Proved
     ///
     /// ```text
-    /// ensures makes_room { MakesRoom REUSES (content self.old) additional (IsOk result) (content self.new) }
+    /// ensures makes_room { MakesRoom REUSES
+    ///     (content self.old) additional (IsOk result) (content self.new) }
     /// ensures err { IfErr result (RefusesCapacity (used (content self.old) + additional)) }
-    /// ensures reuses { REUSES ≡ true → additional ≤ map.len (content self.old).next → IsOk result }
+    /// ensures reuses { REUSES ≡ true →
+    ///     additional ≤ map.len (content self.old).next → IsOk result }
     /// ```
+    ///
+    /// Words: [`MakesRoom`](crate::words#makesroom), [`next`](crate::words#next), [`RefusesCapacity`](crate::words#refusescapacity), [`used`](crate::words#used).
     fn reserve(&mut self, additional: usize) -> Result<(), ReserveError>;
 
     /// Reserves room for `additional` more keys, as `reserve` does.
     ///
-    /// ```ignore
+    /// ```
+    /// # use slotmap_proved::{DefaultKey, Global, Key, Primary};
+    /// # use slotmap_proved::fallible::SlotMap;
+    /// # fn main() -> Result<(), Box<dyn std::error::Error>> {
+    /// # let alloc = Global;
     /// let mut map: SlotMap<DefaultKey, u64> = SlotMap::new(alloc)?;
     /// assert!(Primary::try_reserve(&mut map, 10).is_ok());
     /// assert!(Primary::try_reserve(&mut map, 4294967295).is_err());
+    /// # Ok(())
+    /// # }
     /// ```
     ///
     /// # Proved
     ///
     /// ```text
-    /// ensures makes_room { MakesRoom REUSES (content self.old) additional (IsOk result) (content self.new) }
+    /// ensures makes_room { MakesRoom REUSES
+    ///     (content self.old) additional (IsOk result) (content self.new) }
     /// ensures err { IfErr result (RefusesCapacity (used (content self.old) + additional)) }
-    /// ensures reuses { REUSES ≡ true → additional ≤ map.len (content self.old).next → IsOk result }
+    /// ensures reuses { REUSES ≡ true →
+    ///     additional ≤ map.len (content self.old).next → IsOk result }
     /// ```
+    ///
+    /// Words: [`MakesRoom`](crate::words#makesroom), [`next`](crate::words#next), [`RefusesCapacity`](crate::words#refusescapacity), [`used`](crate::words#used).
     fn try_reserve(&mut self, additional: usize) -> Result<(), ReserveError>;
 
     /// Calls a closure once for each live key, and removes the keys for which it returns `false`.
@@ -338,12 +479,18 @@ pub trait Primary<K: Key, V>: Sized {
     /// The closure gets the key and a mutable reference to its value. What it writes is kept. At
     /// most linear in the number of slots. Allocates nothing.
     ///
-    /// ```ignore
+    /// ```
+    /// # use slotmap_proved::{DefaultKey, Global, Key, Primary};
+    /// # use slotmap_proved::fallible::SlotMap;
+    /// # fn main() -> Result<(), Box<dyn std::error::Error>> {
+    /// # let alloc = Global;
     /// let mut map: SlotMap<DefaultKey, u64> = SlotMap::new(alloc)?;
     /// let (a, b) = (map.insert(1)?, map.insert(2)?);
     /// Primary::retain(&mut map, |_, value: &mut u64| *value % 2 == 0);
     /// assert_eq!(map.get(a), None);
     /// assert_eq!(map.get(b), Some(&2));
+    /// # Ok(())
+    /// # }
     /// ```
     ///
     /// # Proved
@@ -351,10 +498,14 @@ pub trait Primary<K: Key, V>: Sized {
     /// ```text
     /// // For each entry, in each state in which calls for other entries leave the closure.
     /// requires { CallableOnEach F.FnMut K.data_of f (content self.old).live }
-    /// ensures retained { RetainsBy F.FnMut K.data_of f (content self.old).live (content self.new).live }
+    ///
+    /// ensures retained { RetainsBy F.FnMut K.data_of f
+    ///     (content self.old).live (content self.new).live }
     /// ensures leaves { Leaves (content self.old) (content self.new) }
     /// ensures valid { StaysValid REUSES (content self.old) (content self.new) }
     /// ```
+    ///
+    /// Words: [`CallableOnEach`](crate::words#callableoneach), [`Leaves`](crate::words#leaves), [`live`](crate::words#live), [`RetainsBy`](crate::words#retainsby), [`StaysValid`](crate::words#staysvalid).
     fn retain<F: FnMut(K, &mut V) -> bool>(&mut self, f: F)
     where
         F: Sized,
@@ -364,11 +515,17 @@ pub trait Primary<K: Key, V>: Sized {
     ///
     /// At most linear in the number of slots. Allocates nothing.
     ///
-    /// ```ignore
+    /// ```
+    /// # use slotmap_proved::{DefaultKey, Global, Key, Primary};
+    /// # use slotmap_proved::fallible::SlotMap;
+    /// # fn main() -> Result<(), Box<dyn std::error::Error>> {
+    /// # let alloc = Global;
     /// let mut map: SlotMap<DefaultKey, u64> = SlotMap::new(alloc)?;
     /// let key = map.insert(5)?;
     /// Primary::clear(&mut map);
     /// assert!(!map.contains_key(key));
+    /// # Ok(())
+    /// # }
     /// ```
     ///
     /// # Proved
@@ -378,6 +535,8 @@ pub trait Primary<K: Key, V>: Sized {
     /// ensures leaves { Leaves (content self.old) (content self.new) }
     /// ensures valid { StaysValid REUSES (content self.old) (content self.new) }
     /// ```
+    ///
+    /// Words: [`Leaves`](crate::words#leaves), [`live`](crate::words#live), [`StaysValid`](crate::words#staysvalid).
     fn clear(&mut self)
     where
         V: Sized,;
@@ -387,24 +546,36 @@ pub trait Primary<K: Key, V>: Sized {
     /// Room for all pairs is allocated first. If that fails, neither the map nor `out` changes. At most
     /// linear in the number of slots, and in the length of `out` if it has to grow.
     ///
-    /// ```ignore
+    /// ```
+    /// # use slotmap_proved::{DefaultKey, Global, Key, Primary};
+    /// # use slotmap_proved::fallible::{SlotMap, Vec};
+    /// # fn main() -> Result<(), Box<dyn std::error::Error>> {
+    /// # let alloc = Global;
     /// let mut map: SlotMap<DefaultKey, u64> = SlotMap::new(alloc)?;
     /// let key = map.insert(5)?;
     /// let mut pairs = Vec::new(alloc);
     /// Primary::drain_into(&mut map, &mut pairs)?;
     /// assert_eq!(pairs[0], (key, 5));
     /// assert!(map.is_empty());
+    /// # Ok(())
+    /// # }
     /// ```
     ///
     /// # Proved
     ///
     /// ```text
-    /// ensures ok { OnOk result ((pairs : List (K × V)) × (out.new.items ≡ out.old.items ++ pairs) × IsListing (content self.old).live (list_map (λ p. (K.data_of p.0, p.1)) pairs)) }
+    /// ensures ok { OnOk result ((pairs : List (K × V))
+    ///     × (out.new.items ≡ out.old.items ++ pairs)
+    ///     × IsListing (content self.old).live (list_map (λ p. (K.data_of p.0, p.1)) pairs)) }
     /// ensures empty { OnOk result ((content self.new).live ≡ map.empty) }
     /// ensures leaves { OnOk result (Leaves (content self.old) (content self.new)) }
-    /// ensures unchanged { OnErr result ((content self.new ≡ content self.old) × (out.new.items ≡ out.old.items)) }
+    ///
+    /// ensures unchanged { OnErr result
+    ///     ((content self.new ≡ content self.old) × (out.new.items ≡ out.old.items)) }
     /// ensures valid { StaysValid REUSES (content self.old) (content self.new) }
     /// ```
+    ///
+    /// Words: [`IsListing`](crate::words#islisting), [`Leaves`](crate::words#leaves), [`live`](crate::words#live), [`StaysValid`](crate::words#staysvalid).
     fn drain_into(&mut self, out: &mut Vec<(K, V)>) -> Result<(), OutOfMemory>;
 
     /// Appends every live key to `out`.
@@ -412,21 +583,31 @@ pub trait Primary<K: Key, V>: Sized {
     /// Room for all keys is allocated first. If that fails, `out` doesn't change. At most linear in the
     /// number of slots, and in the length of `out` if it has to grow.
     ///
-    /// ```ignore
+    /// ```
+    /// # use slotmap_proved::{DefaultKey, Global, Key, Primary};
+    /// # use slotmap_proved::fallible::{SlotMap, Vec};
+    /// # fn main() -> Result<(), Box<dyn std::error::Error>> {
+    /// # let alloc = Global;
     /// let mut map: SlotMap<DefaultKey, u64> = SlotMap::new(alloc)?;
     /// let key = map.insert(5)?;
     /// let mut keys = Vec::new(alloc);
     /// Primary::keys_into(&map, &mut keys)?;
     /// assert_eq!(keys[0], key);
+    /// # Ok(())
+    /// # }
     /// ```
     ///
     /// # Proved
     ///
     /// ```text
-    /// ensures ok { OnOk result ((keys : List K) × (out.new.items ≡ out.old.items ++ keys) × IsKeyListing (content self.now).live (list_map K.data_of keys)) }
+    /// ensures ok { OnOk result ((keys : List K)
+    ///     × (out.new.items ≡ out.old.items ++ keys)
+    ///     × IsKeyListing (content self.now).live (list_map K.data_of keys)) }
     /// ensures unchanged { OnErr result (out.new.items ≡ out.old.items) }
     /// ensures valid { IsContent REUSES (content self.now) }
     /// ```
+    ///
+    /// Words: [`IsContent`](crate::words#iscontent), [`IsKeyListing`](crate::words#iskeylisting), [`live`](crate::words#live).
     fn keys_into(&self, out: &mut Vec<K>) -> Result<(), OutOfMemory>;
 }
 
@@ -435,12 +616,18 @@ pub trait Primary<K: Key, V>: Sized {
 /// The value of a detached key is taken out, and its slot is kept until the key is bound to a value
 /// again. Such a map reuses the slot freed last first. Rust lacks this trait.
 ///
-/// ```ignore
+/// ```
+/// # use slotmap_proved::{DefaultKey, Detaching, Global, Key};
+/// # use slotmap_proved::fallible::SlotMap;
+/// # fn main() -> Result<(), Box<dyn std::error::Error>> {
+/// # let alloc = Global;
 /// let mut map: SlotMap<DefaultKey, u64> = SlotMap::new(alloc)?;
 /// let key = map.insert(5)?;
 /// assert_eq!(Detaching::detach(&mut map, key), Some(5));
 /// Detaching::reattach(&mut map, key, 6)?;
 /// assert_eq!(map.get(key), Some(&6));
+/// # Ok(())
+/// # }
 /// ```
 ///
 /// In Rattle each impl is proved to do what the clauses here say. In Rust nothing checks that. An impl that does otherwise spoils the runs that are given it.
@@ -451,22 +638,32 @@ pub trait Detaching<K: Key, V>: Primary<K, V> {
     /// The key is detached then: no insert returns it, and only `reattach` makes it live again. The
     /// call allocates nothing.
     ///
-    /// ```ignore
+    /// ```
+    /// # use slotmap_proved::{DefaultKey, Detaching, Global, Key};
+    /// # use slotmap_proved::fallible::SlotMap;
+    /// # fn main() -> Result<(), Box<dyn std::error::Error>> {
+    /// # let alloc = Global;
     /// let mut map: SlotMap<DefaultKey, u64> = SlotMap::new(alloc)?;
     /// let key = map.insert(5)?;
     /// assert_eq!(Detaching::detach(&mut map, key), Some(5));
     /// assert!(!map.contains_key(key));
+    /// # Ok(())
+    /// # }
     /// ```
     ///
     /// # Proved
     ///
     /// ```text
     /// ensures value { result ≡ map.get (Self.content self.old).live (K.data_of key) }
-    /// ensures detaches { OnSome result (Detaches (Self.content self.old) (K.data_of key) (Self.content self.new)) }
+    /// ensures detaches { OnSome result
+    ///     (Detaches (Self.content self.old) (K.data_of key) (Self.content self.new)) }
     /// ensures unchanged { IfNone result (Self.content self.new ≡ Self.content self.old) }
-    /// ensures live { (Self.content self.new).live ≡ map.remove (Self.content self.old).live (K.data_of key) }
+    /// ensures live { (Self.content self.new).live
+    ///     ≡ map.remove (Self.content self.old).live (K.data_of key) }
     /// ensures valid { StaysValid Self.REUSES (Self.content self.old) (Self.content self.new) }
     /// ```
+    ///
+    /// Words: [`Detaches`](crate::words#detaches), [`live`](crate::words#live), [`StaysValid`](crate::words#staysvalid).
     fn detach(&mut self, key: K) -> Option<V>;
 
     /// Binds a detached key to a value again.
@@ -474,19 +671,30 @@ pub trait Detaching<K: Key, V>: Primary<K, V> {
     /// It fails with `NotDetached` if the key isn't detached, and with `Memory` if memory runs out.
     /// A map with `REUSES` never fails with `Memory`. The error holds the value.
     ///
-    /// ```ignore
+    /// ```
+    /// # use slotmap_proved::{DefaultKey, Detaching, Global, Key, ReattachError};
+    /// # use slotmap_proved::fallible::SlotMap;
+    /// # fn main() -> Result<(), Box<dyn std::error::Error>> {
+    /// # let alloc = Global;
     /// let mut map: SlotMap<DefaultKey, u64> = SlotMap::new(alloc)?;
     /// let key = map.insert(5)?;
     /// let error = Detaching::reattach(&mut map, key, 6);
     /// assert!(matches!(error, Err(ReattachError::NotDetached(6))));
+    /// # Ok(())
+    /// # }
     /// ```
     ///
     /// # Proved
     ///
     /// ```text
-    /// ensures ok { OnOk result (Reattaches (Self.content self.old) (K.data_of key) value (Self.content self.new)) }
-    /// ensures err { IfErr result (λ error. RefusesReattach Self.REUSES (Self.content self.old) (K.data_of key) value error) }
-    /// ensures valid { MayGrow Self.REUSES (Self.content self.old) (IsErr result) (Self.content self.new) }
+    /// ensures ok { OnOk result
+    ///     (Reattaches (Self.content self.old) (K.data_of key) value (Self.content self.new)) }
+    /// ensures err { IfErr result (λ error.
+    ///     RefusesReattach Self.REUSES (Self.content self.old) (K.data_of key) value error) }
+    /// ensures valid { MayGrow Self.REUSES
+    ///     (Self.content self.old) (IsErr result) (Self.content self.new) }
     /// ```
+    ///
+    /// Words: [`MayGrow`](crate::words#maygrow), [`Reattaches`](crate::words#reattaches), [`RefusesReattach`](crate::words#refusesreattach).
     fn reattach(&mut self, key: K, value: V) -> Result<(), ReattachError<V>>;
 }

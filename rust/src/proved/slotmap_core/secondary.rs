@@ -12,12 +12,18 @@ use crate::proved::slotmap_core::keys::Key;
 
 /// What `or_put` did.
 ///
-/// ```ignore
+/// ```
+/// # use slotmap_proved::{DefaultKey, Global, Key, OrPut};
+/// # use slotmap_proved::fallible::{SecondaryMap, SlotMap};
+/// # fn main() -> Result<(), Box<dyn std::error::Error>> {
+/// # let alloc = Global;
 /// let mut map: SlotMap<DefaultKey, u64> = SlotMap::new(alloc)?;
 /// let mut side: SecondaryMap<DefaultKey, u64> = SecondaryMap::new(alloc)?;
 /// let key = map.insert(5)?;
 /// assert!(matches!(side.or_put(key, 1), OrPut::Placed));
 /// assert!(matches!(side.or_put(key, 2), OrPut::Kept(2)));
+/// # Ok(())
+/// # }
 /// ```
 #[derive(Debug)]
 pub enum OrPut<V> {
@@ -33,9 +39,15 @@ pub enum OrPut<V> {
 
 /// The error of `try_entry`: the key has no entry, or memory ran out for its slot.
 ///
-/// ```ignore
+/// ```
+/// # use slotmap_proved::{DefaultKey, Global, Key, NoEntry};
+/// # use slotmap_proved::fallible::SecondaryMap;
+/// # fn main() -> Result<(), Box<dyn std::error::Error>> {
+/// # let alloc = Global;
 /// let mut side: SecondaryMap<DefaultKey, u64> = SecondaryMap::new(alloc)?;
 /// assert!(matches!(side.try_entry(DefaultKey::null()), Err(NoEntry::Older)));
+/// # Ok(())
+/// # }
 /// ```
 #[derive(Debug)]
 pub enum NoEntry {
@@ -53,12 +65,18 @@ pub enum NoEntry {
 /// on one key takes constant time, unless slots are made or memory grows; in a sparse map only if the
 /// hasher spreads the indices. Rust lacks this trait.
 ///
-/// ```ignore
+/// ```
+/// # use slotmap_proved::{DefaultKey, Global, Key, Secondary};
+/// # use slotmap_proved::fallible::{SecondaryMap, SlotMap};
+/// # fn main() -> Result<(), Box<dyn std::error::Error>> {
+/// # let alloc = Global;
 /// let mut map: SlotMap<DefaultKey, u64> = SlotMap::new(alloc)?;
 /// let mut side: SecondaryMap<DefaultKey, u64> = SecondaryMap::new(alloc)?;
 /// let key = map.insert(5)?;
 /// Secondary::insert(&mut side, key, 7)?;
 /// assert_eq!(Secondary::get(&side, key), Some(&7));
+/// # Ok(())
+/// # }
 /// ```
 ///
 /// In Rattle each impl is proved to do what the clauses here say. In Rust nothing checks that. An impl that does otherwise spoils the runs and searches that are given it.
@@ -69,9 +87,15 @@ pub trait Secondary<K: Key, V> {
     ///
     /// Constant time.
     ///
-    /// ```ignore
+    /// ```
+    /// # use slotmap_proved::{DefaultKey, Global, Key, Secondary};
+    /// # use slotmap_proved::fallible::SecondaryMap;
+    /// # fn main() -> Result<(), Box<dyn std::error::Error>> {
+    /// # let alloc = Global;
     /// let side: SecondaryMap<DefaultKey, u64> = SecondaryMap::new(alloc)?;
     /// assert_eq!(Secondary::len(&side), 0);
+    /// # Ok(())
+    /// # }
     /// ```
     ///
     /// # Proved
@@ -80,19 +104,27 @@ pub trait Secondary<K: Key, V> {
     /// ensures value { result ≡ map.len (pairs self.now) }
     /// ensures valid { IsSecondary (pairs self.now) }
     /// ```
+    ///
+    /// Words: [`IsSecondary`](crate::words#issecondary).
     fn len(&self) -> usize;
 
     /// Returns whether this key is in the map.
     ///
     /// Constant time; in a sparse map only if the hasher spreads the indices.
     ///
-    /// ```ignore
+    /// ```
+    /// # use slotmap_proved::{DefaultKey, Global, Key, Secondary};
+    /// # use slotmap_proved::fallible::{SecondaryMap, SlotMap};
+    /// # fn main() -> Result<(), Box<dyn std::error::Error>> {
+    /// # let alloc = Global;
     /// let mut map: SlotMap<DefaultKey, u64> = SlotMap::new(alloc)?;
     /// let mut side: SecondaryMap<DefaultKey, u64> = SecondaryMap::new(alloc)?;
     /// let (a, b) = (map.insert(1)?, map.insert(2)?);
     /// side.insert(a, 10)?;
     /// assert!(Secondary::contains_key(&side, a));
     /// assert!(!Secondary::contains_key(&side, b));
+    /// # Ok(())
+    /// # }
     /// ```
     ///
     /// # Proved
@@ -101,19 +133,27 @@ pub trait Secondary<K: Key, V> {
     /// ensures value { result ≡ pair.contains_key (pairs self.now) (K.data_of key) }
     /// ensures valid { IsSecondary (pairs self.now) }
     /// ```
+    ///
+    /// Words: [`contains_key`](crate::words#contains_key), [`IsSecondary`](crate::words#issecondary).
     fn contains_key(&self, key: K) -> bool;
 
     /// Returns the value of a key, or `None` if the key isn't in the map.
     ///
     /// Constant time; in a sparse map only if the hasher spreads the indices.
     ///
-    /// ```ignore
+    /// ```
+    /// # use slotmap_proved::{DefaultKey, Global, Key, Secondary};
+    /// # use slotmap_proved::fallible::{SecondaryMap, SlotMap};
+    /// # fn main() -> Result<(), Box<dyn std::error::Error>> {
+    /// # let alloc = Global;
     /// let mut map: SlotMap<DefaultKey, u64> = SlotMap::new(alloc)?;
     /// let mut side: SecondaryMap<DefaultKey, u64> = SecondaryMap::new(alloc)?;
     /// let (a, b) = (map.insert(1)?, map.insert(2)?);
     /// side.insert(a, 10)?;
     /// assert_eq!(Secondary::get(&side, a), Some(&10));
     /// assert_eq!(Secondary::get(&side, b), None);
+    /// # Ok(())
+    /// # }
     /// ```
     ///
     /// # Proved
@@ -122,6 +162,8 @@ pub trait Secondary<K: Key, V> {
     /// ensures value { option_copied result ≡ pair.get (pairs self.now) (K.data_of key) }
     /// ensures valid { IsSecondary (pairs self.now) }
     /// ```
+    ///
+    /// Words: [`get`](crate::words#get), [`IsSecondary`](crate::words#issecondary).
     fn get(&self, key: K) -> Option<&V>;
 
     /// Inserts a value under a key, and returns the value that the key had.
@@ -132,13 +174,19 @@ pub trait Secondary<K: Key, V> {
     /// If memory runs out, the map holds what it held, and the error holds the value. That can happen
     /// only if the key's entry is vacant.
     ///
-    /// ```ignore
+    /// ```
+    /// # use slotmap_proved::{DefaultKey, Global, Key, Secondary};
+    /// # use slotmap_proved::fallible::{SecondaryMap, SlotMap};
+    /// # fn main() -> Result<(), Box<dyn std::error::Error>> {
+    /// # let alloc = Global;
     /// let mut map: SlotMap<DefaultKey, u64> = SlotMap::new(alloc)?;
     /// let mut side: SecondaryMap<DefaultKey, u64> = SecondaryMap::new(alloc)?;
     /// let key = map.insert(5)?;
     /// assert_eq!(Secondary::insert(&mut side, key, 7)?, None);
     /// assert_eq!(Secondary::insert(&mut side, key, 8)?, Some(7));
     /// assert_eq!(Secondary::insert(&mut side, DefaultKey::null(), 9)?, None);
+    /// # Ok(())
+    /// # }
     /// ```
     ///
     /// # Proved
@@ -146,23 +194,33 @@ pub trait Secondary<K: Key, V> {
     /// ```text
     /// ensures value { IfOk result (λ before. before ≡ pair.get (pairs self.old) (K.data_of key)) }
     /// ensures ok { OnOk result (pairs self.new ≡ pair.put (pairs self.old) (K.data_of key) value) }
+    ///
     /// ensures err { IfErr result (λ error. RefusesPut (pairs self.old) (K.data_of key) value error.0) }
     /// ensures unchanged { OnErr result (pairs self.new ≡ pairs self.old) }
+    ///
     /// ensures valid { IsSecondary (pairs self.new) }
     /// ```
+    ///
+    /// Words: [`get`](crate::words#get), [`IsSecondary`](crate::words#issecondary), [`put`](crate::words#put), [`RefusesPut`](crate::words#refusesput).
     fn insert(&mut self, key: K, value: V) -> Result<Option<V>, PutError<V>>;
 
     /// Removes a key and returns its value, or `None` if the key isn't in the map.
     ///
     /// Constant time; in a sparse map only if the hasher spreads the indices.
     ///
-    /// ```ignore
+    /// ```
+    /// # use slotmap_proved::{DefaultKey, Global, Key, Secondary};
+    /// # use slotmap_proved::fallible::{SecondaryMap, SlotMap};
+    /// # fn main() -> Result<(), Box<dyn std::error::Error>> {
+    /// # let alloc = Global;
     /// let mut map: SlotMap<DefaultKey, u64> = SlotMap::new(alloc)?;
     /// let mut side: SecondaryMap<DefaultKey, u64> = SecondaryMap::new(alloc)?;
     /// let key = map.insert(5)?;
     /// side.insert(key, 7)?;
     /// assert_eq!(Secondary::remove(&mut side, key), Some(7));
     /// assert_eq!(Secondary::remove(&mut side, key), None);
+    /// # Ok(())
+    /// # }
     /// ```
     ///
     /// # Proved
@@ -170,21 +228,30 @@ pub trait Secondary<K: Key, V> {
     /// ```text
     /// ensures value { result ≡ pair.get (pairs self.old) (K.data_of key) }
     /// ensures removes { pairs self.new ≡ pair.remove (pairs self.old) (K.data_of key) }
+    ///
     /// ensures valid { IsSecondary (pairs self.new) }
     /// ```
+    ///
+    /// Words: [`get`](crate::words#get), [`IsSecondary`](crate::words#issecondary), [`remove`](crate::words#remove).
     fn remove(&mut self, key: K) -> Option<V>;
 
     /// Inserts a value under a key whose entry is vacant, and otherwise returns the value.
     ///
     /// [`OrPut`] lists the results.
     ///
-    /// ```ignore
+    /// ```
+    /// # use slotmap_proved::{DefaultKey, Global, Key, OrPut, Secondary};
+    /// # use slotmap_proved::fallible::{SecondaryMap, SlotMap};
+    /// # fn main() -> Result<(), Box<dyn std::error::Error>> {
+    /// # let alloc = Global;
     /// let mut map: SlotMap<DefaultKey, u64> = SlotMap::new(alloc)?;
     /// let mut side: SecondaryMap<DefaultKey, u64> = SecondaryMap::new(alloc)?;
     /// let key = map.insert(5)?;
     /// side.insert(key, 7)?;
     /// assert!(matches!(Secondary::or_put(&mut side, key, 8), OrPut::Kept(8)));
     /// assert_eq!(side.get(key), Some(&7));
+    /// # Ok(())
+    /// # }
     /// ```
     ///
     /// # Proved
@@ -193,6 +260,8 @@ pub trait Secondary<K: Key, V> {
     /// ensures does { OrPuts (pairs self.old) (K.data_of key) value result (pairs self.new) }
     /// ensures valid { IsSecondary (pairs self.new) }
     /// ```
+    ///
+    /// Words: [`IsSecondary`](crate::words#issecondary), [`OrPuts`](crate::words#orputs).
     fn or_put(&mut self, key: K, value: V) -> OrPut<V>;
 }
 
@@ -201,14 +270,21 @@ pub trait Secondary<K: Key, V> {
 /// Each variant names its reply, a variant of [`SecondaryReply`]. `look` is the closure that the
 /// run is given.
 ///
-/// ```ignore
+/// ```
+/// # use slotmap_proved::{DefaultKey, Global, Key, OutOfMemory};
+/// # use slotmap_proved::fallible::{SecondaryMap, SlotMap};
+/// # use slotmap_proved::runs::{run_secondary, SecondaryCommand, SecondaryReply};
+/// # fn main() -> Result<(), Box<dyn std::error::Error>> {
+/// # let alloc = Global;
 /// let mut map: SlotMap<DefaultKey, u64> = SlotMap::new(alloc)?;
 /// let mut side: SecondaryMap<DefaultKey, u64> = SecondaryMap::new(alloc)?;
 /// let key = map.insert(5)?;
-/// let commands = vec![SecondaryCommand::Insert(key, 7), SecondaryCommand::Get(key)]?;
+/// let commands = vec![SecondaryCommand::Insert(key, 7), SecondaryCommand::Get(key)].into();
 /// let replies = run_secondary(alloc, &mut side, commands, |value: &u64| *value + 1)
 ///     .map_err(|_| OutOfMemory)?;
 /// assert!(matches!(replies[1], SecondaryReply::Looked(Some(8))));
+/// # Ok(())
+/// # }
 /// ```
 pub enum SecondaryCommand<K, V> {
     /// Inserts the value under this key: `Old`; or `Memory`, with the value. If the key is null, or older
@@ -228,12 +304,19 @@ pub enum SecondaryCommand<K, V> {
 
 /// The reply to a command to a secondary map.
 ///
-/// ```ignore
+/// ```
+/// # use slotmap_proved::{DefaultKey, Global, Key, OutOfMemory};
+/// # use slotmap_proved::fallible::SecondaryMap;
+/// # use slotmap_proved::runs::{run_secondary, SecondaryCommand, SecondaryReply};
+/// # fn main() -> Result<(), Box<dyn std::error::Error>> {
+/// # let alloc = Global;
 /// let mut side: SecondaryMap<DefaultKey, u64> = SecondaryMap::new(alloc)?;
-/// let commands = vec![SecondaryCommand::Remove(DefaultKey::null())]?;
+/// let commands = vec![SecondaryCommand::Remove(DefaultKey::null())].into();
 /// let replies = run_secondary(alloc, &mut side, commands, |value: &u64| *value)
 ///     .map_err(|_| OutOfMemory)?;
 /// assert!(matches!(replies[0], SecondaryReply::Taken(None)));
+/// # Ok(())
+/// # }
 /// ```
 pub enum SecondaryReply<V, R> {
     /// The value that the key had, if any.

@@ -23,12 +23,18 @@ use crate::proved::slotmap_core::errors::SlotsError;
 ///
 /// In the list of a secondary map, a slot that holds nothing has no value and version 0.
 ///
-/// ```ignore
+/// ```
+/// # use slotmap_proved::{DefaultKey, Global, Key, list};
+/// # use slotmap_proved::fallible::SlotMap;
+/// # fn main() -> Result<(), Box<dyn std::error::Error>> {
+/// # let alloc = Global;
 /// let mut map: SlotMap<DefaultKey, u64> = SlotMap::new(alloc)?;
 /// map.insert(5)?;
 /// let list = map.to_slots()?;
 /// assert_eq!((list[0].value, list[0].version), (None, 0));
 /// assert_eq!((list[1].value, list[1].version), (Some(5), 1));
+/// # Ok(())
+/// # }
 /// ```
 #[derive(Debug)]
 pub struct SlotRecord<V> {
@@ -57,13 +63,18 @@ impl<V> SlotRecord<V> {
 ///
 /// It never fails with `Memory`. At most one pass over the list. Rust lacks this call.
 ///
-/// ```ignore
+/// ```
+/// # use slotmap_proved::{check_slots, Global, Key, list, SlotRecord, SlotsError};
+/// # fn main() -> Result<(), Box<dyn std::error::Error>> {
+/// # let alloc = Global;
 /// let list = [
 ///     SlotRecord { value: None, version: 0 },
 ///     SlotRecord { value: Some(7), version: 2 },
 /// ];
 /// let checked = check_slots(&list, 4294967295);
 /// assert!(matches!(checked, Err(SlotsError::Inconsistent(1))));
+/// # Ok(())
+/// # }
 /// ```
 ///
 /// # Proved
@@ -71,9 +82,12 @@ impl<V> SlotRecord<V> {
 /// ```text
 /// ensures ok { IsOk result ↔ Accepts list.now limit }
 /// ensures err { IfErr result (RefusesList list.now limit) }
+///
 /// // For a caller that goes on to read the list: each version has 32 bits.
 /// ensures versions_fit { OnOk result (AllFitBelow list.now (length list.now)) }
 /// ```
+///
+/// Words: [`Accepts`](crate::words#accepts), [`AllFitBelow`](crate::words#allfitbelow), [`RefusesList`](crate::words#refuseslist).
 #[inline]
 pub fn check_slots<V>(list: &[SlotRecord<V>], limit: usize) -> Result<(), SlotsError> {
     if list.len() >= limit {

@@ -27,11 +27,20 @@ impl<K: Key, V> DenseSlotMap<K, V> {
     /// A removed or detached key isn't live, nor is the null key. A key of another map is live here
     /// only if this map has a live key of the same index and version. Constant time.
     ///
-    /// ```ignore
+    /// ```
+    /// # use slotmap_proved::{DefaultKey, Global, Key};
+    /// # use slotmap_proved::fallible::DenseSlotMap;
+    /// # fn main() -> Result<(), Box<dyn std::error::Error>> {
+    /// # let alloc = Global;
+    /// # let mut map: DenseSlotMap<DefaultKey, u64> = DenseSlotMap::new(alloc)?;
+    /// # let a = map.insert(1)?;
+    /// # let b = map.insert(2)?;
     /// assert!(map.contains_key(a));
     /// map.remove(a);
     /// assert!(!map.contains_key(a));
     /// assert!(!map.contains_key(DefaultKey::null()));
+    /// # Ok(())
+    /// # }
     /// ```
     ///
     /// # Proved
@@ -40,6 +49,8 @@ impl<K: Key, V> DenseSlotMap<K, V> {
     /// ensures value { result ≡ map.contains_key self.now.content.live (K.data_of key) }
     /// ensures valid { IsDense self.now }
     /// ```
+    ///
+    /// Words: [`content`](crate::words#content-of-slotmap_dense-dense), [`IsDense`](crate::words#isdense), [`live`](crate::words#live).
     #[inline]
     pub fn contains_key(&self, key: K) -> bool {
         self.slots.contains_key(key.data())
@@ -49,10 +60,19 @@ impl<K: Key, V> DenseSlotMap<K, V> {
     ///
     /// Constant time.
     ///
-    /// ```ignore
+    /// ```
+    /// # use slotmap_proved::{DefaultKey, Global, Key};
+    /// # use slotmap_proved::fallible::DenseSlotMap;
+    /// # fn main() -> Result<(), Box<dyn std::error::Error>> {
+    /// # let alloc = Global;
+    /// # let mut map: DenseSlotMap<DefaultKey, u64> = DenseSlotMap::new(alloc)?;
+    /// # let a = map.insert(1)?;
+    /// # let b = map.insert(2)?;
     /// assert_eq!(map.get(b), Some(&2));
     /// map.remove(b);
     /// assert_eq!(map.get(b), None);
+    /// # Ok(())
+    /// # }
     /// ```
     ///
     /// # Proved
@@ -61,6 +81,8 @@ impl<K: Key, V> DenseSlotMap<K, V> {
     /// ensures value { option_copied result ≡ map.get self.now.content.live (K.data_of key) }
     /// ensures valid { IsDense self.now }
     /// ```
+    ///
+    /// Words: [`content`](crate::words#content-of-slotmap_dense-dense), [`IsDense`](crate::words#isdense), [`live`](crate::words#live).
     #[inline]
     pub fn get(&self, key: K) -> Option<&V> {
         let position = *self.slots.get(key.data())?;
@@ -72,8 +94,17 @@ impl<K: Key, V> DenseSlotMap<K, V> {
     /// The contract requires that the key is live. So this call is safe; Rust's is `unsafe`.
     /// Constant time.
     ///
-    /// ```ignore
+    /// ```
+    /// # use slotmap_proved::{DefaultKey, Global, Key};
+    /// # use slotmap_proved::fallible::DenseSlotMap;
+    /// # fn main() -> Result<(), Box<dyn std::error::Error>> {
+    /// # let alloc = Global;
+    /// # let mut map: DenseSlotMap<DefaultKey, u64> = DenseSlotMap::new(alloc)?;
+    /// # let a = map.insert(1)?;
+    /// # let b = map.insert(2)?;
     /// assert_eq!(*map.get_unchecked(a), 1);
+    /// # Ok(())
+    /// # }
     /// ```
     ///
     /// # Proved
@@ -83,6 +114,8 @@ impl<K: Key, V> DenseSlotMap<K, V> {
     /// ensures value { map.get self.now.content.live (K.data_of key) ≡ Some result.now }
     /// ensures valid { IsDense self.now }
     /// ```
+    ///
+    /// Words: [`content`](crate::words#content-of-slotmap_dense-dense), [`IsDense`](crate::words#isdense), [`IsLive`](crate::words#islive), [`live`](crate::words#live).
     #[inline]
     pub fn get_unchecked(&self, key: K) -> &V {
         assert!(self.contains_key(key), "the key is not live");
@@ -95,11 +128,20 @@ impl<K: Key, V> DenseSlotMap<K, V> {
     /// Once the reference ends, the key has the last value written through it. All else is as
     /// before. Constant time.
     ///
-    /// ```ignore
+    /// ```
+    /// # use slotmap_proved::{DefaultKey, Global, Key};
+    /// # use slotmap_proved::fallible::DenseSlotMap;
+    /// # fn main() -> Result<(), Box<dyn std::error::Error>> {
+    /// # let alloc = Global;
+    /// # let mut map: DenseSlotMap<DefaultKey, u64> = DenseSlotMap::new(alloc)?;
+    /// # let a = map.insert(1)?;
+    /// # let b = map.insert(2)?;
     /// if let Some(value) = map.get_mut(a) {
     ///     *value = 5;
     /// }
     /// assert_eq!(map.get(a), Some(&5));
+    /// # Ok(())
+    /// # }
     /// ```
     ///
     /// # Proved
@@ -109,6 +151,8 @@ impl<K: Key, V> DenseSlotMap<K, V> {
     /// ensures value { option_copied_mut result ≡ map.get self.old.content.live (K.data_of key) }
     /// ensures valid { IsDense self.old }
     /// ```
+    ///
+    /// Words: [`content`](crate::words#content-of-slotmap_dense-dense), [`IsDense`](crate::words#isdense), [`lends_get`](crate::words#lends_get-of-slotmap_dense-lends), [`live`](crate::words#live).
     #[inline]
     pub fn get_mut(&mut self, key: K) -> Option<&mut V> {
         if self.contains_key(key) {
@@ -123,9 +167,18 @@ impl<K: Key, V> DenseSlotMap<K, V> {
     /// The contract requires that the key is live. So this call is safe; Rust's is `unsafe`.
     /// Constant time.
     ///
-    /// ```ignore
+    /// ```
+    /// # use slotmap_proved::{DefaultKey, Global, Key};
+    /// # use slotmap_proved::fallible::DenseSlotMap;
+    /// # fn main() -> Result<(), Box<dyn std::error::Error>> {
+    /// # let alloc = Global;
+    /// # let mut map: DenseSlotMap<DefaultKey, u64> = DenseSlotMap::new(alloc)?;
+    /// # let a = map.insert(1)?;
+    /// # let b = map.insert(2)?;
     /// *map.get_unchecked_mut(a) = 5;
     /// assert_eq!(map.get(a), Some(&5));
+    /// # Ok(())
+    /// # }
     /// ```
     ///
     /// # Proved
@@ -136,6 +189,8 @@ impl<K: Key, V> DenseSlotMap<K, V> {
     /// ensures value { map.get self.old.content.live (K.data_of key) ≡ Some result.now }
     /// ensures valid { IsDense self.old }
     /// ```
+    ///
+    /// Words: [`content`](crate::words#content-of-slotmap_dense-dense), [`IsDense`](crate::words#isdense), [`IsLive`](crate::words#islive), [`lends_value`](crate::words#lends_value-of-slotmap_dense-lends), [`live`](crate::words#live).
     #[inline]
     pub fn get_unchecked_mut(&mut self, key: K) -> &mut V {
         assert!(self.contains_key(key), "the key is not live");
@@ -148,10 +203,19 @@ impl<K: Key, V> DenseSlotMap<K, V> {
     /// If the key isn't live, nothing changes, and the new value is returned as the error. Constant
     /// time. Rust lacks this call.
     ///
-    /// ```ignore
+    /// ```
+    /// # use slotmap_proved::{DefaultKey, Global, Key};
+    /// # use slotmap_proved::fallible::DenseSlotMap;
+    /// # fn main() -> Result<(), Box<dyn std::error::Error>> {
+    /// # let alloc = Global;
+    /// # let mut map: DenseSlotMap<DefaultKey, u64> = DenseSlotMap::new(alloc)?;
+    /// # let a = map.insert(1)?;
+    /// # let b = map.insert(2)?;
     /// assert_eq!(map.replace(a, 5), Ok(1));
     /// map.remove(a);
     /// assert_eq!(map.replace(a, 6), Err(6));
+    /// # Ok(())
+    /// # }
     /// ```
     ///
     /// # Proved
@@ -163,6 +227,8 @@ impl<K: Key, V> DenseSlotMap<K, V> {
     /// ensures unchanged { OnErr result (self.new ≡ self.old) }
     /// ensures valid { StaysDense self.old self.new }
     /// ```
+    ///
+    /// Words: [`content`](crate::words#content-of-slotmap_dense-dense), [`IsLive`](crate::words#islive), [`live`](crate::words#live), [`StaysDense`](crate::words#staysdense), [`with_value_of`](crate::words#with_value_of).
     #[inline]
     pub fn replace(&mut self, key: K, value: V) -> Result<V, V> {
         match self.get_mut(key) {
@@ -177,21 +243,19 @@ impl<K: Key, V> DenseSlotMap<K, V> {
     /// returned as the error. It looks up each key and compares each two, and allocates nothing.
     /// Its time doesn't depend on the size of the map. Rust lacks this call.
     ///
-    /// ```ignore
+    /// ```
+    /// # use slotmap_proved::{DefaultKey, Global, Key};
+    /// # use slotmap_proved::fallible::DenseSlotMap;
+    /// # fn main() -> Result<(), Box<dyn std::error::Error>> {
+    /// # let alloc = Global;
+    /// # let mut map: DenseSlotMap<DefaultKey, u64> = DenseSlotMap::new(alloc)?;
+    /// # let a = map.insert(1)?;
+    /// # let b = map.insert(2)?;
     /// assert_eq!(map.replace_disjoint([a, b], [5, 6]), Ok([1, 2]));
     /// assert_eq!(map.get(b), Some(&6));
     /// assert_eq!(map.replace_disjoint([a, a], [7, 8]), Err([7, 8]));
-    /// ```
-    ///
-    /// # Proved
-    ///
-    /// ```text
-    /// ensures which { IsOk result ↔ CanReplace value_of self.old (map_list K.data_of keys) }
-    /// ensures value { IfOk result (AreValuesOf value_of self.old (map_list K.data_of keys)) }
-    /// ensures ok { OnOk result (self.new ≡ with_values with_value_of self.old (map_list K.data_of keys) values) }
-    /// ensures err { IfErr result (λ back. back ≡ values) }
-    /// ensures unchanged { OnErr result (self.new ≡ self.old) }
-    /// ensures valid { StaysDense self.old self.new }
+    /// # Ok(())
+    /// # }
     /// ```
     #[inline]
     pub fn replace_disjoint<const N: usize>(
@@ -215,9 +279,18 @@ impl<K: Key, V> DenseSlotMap<K, V> {
     /// else they fail. It looks up each key and compares each two, and allocates nothing. Rust
     /// lacks this call.
     ///
-    /// ```ignore
+    /// ```
+    /// # use slotmap_proved::{DefaultKey, Global, Key};
+    /// # use slotmap_proved::fallible::DenseSlotMap;
+    /// # fn main() -> Result<(), Box<dyn std::error::Error>> {
+    /// # let alloc = Global;
+    /// # let mut map: DenseSlotMap<DefaultKey, u64> = DenseSlotMap::new(alloc)?;
+    /// # let a = map.insert(1)?;
+    /// # let b = map.insert(2)?;
     /// assert!(map.can_replace(&[a, b]));
     /// assert!(!map.can_replace(&[a, a]));
+    /// # Ok(())
+    /// # }
     /// ```
     ///
     /// # Proved
@@ -226,6 +299,8 @@ impl<K: Key, V> DenseSlotMap<K, V> {
     /// ensures which { IsTrue result ↔ CanReplace value_of self.now (map_list K.data_of keys.now) }
     /// ensures valid { IsDense self.now }
     /// ```
+    ///
+    /// Words: [`CanReplace`](crate::words#canreplace-of-slotmap_core-several), [`IsDense`](crate::words#isdense), [`value_of`](crate::words#value_of-of-slotmap_dense-dense).
     #[inline]
     pub fn can_replace(&self, keys: &[K]) -> bool {
         self.note_valid();
@@ -260,11 +335,20 @@ impl<K: Key, V> DenseSlotMap<K, V> {
     /// [`DenseSlotMap::can_replace`] first. In Rust there may be any number of keys. Constant time;
     /// allocates nothing.
     ///
-    /// ```ignore
+    /// ```
+    /// # use slotmap_proved::{DefaultKey, Global, Key};
+    /// # use slotmap_proved::fallible::DenseSlotMap;
+    /// # fn main() -> Result<(), Box<dyn std::error::Error>> {
+    /// # let alloc = Global;
+    /// # let mut map: DenseSlotMap<DefaultKey, u64> = DenseSlotMap::new(alloc)?;
+    /// # let a = map.insert(1)?;
+    /// # let b = map.insert(2)?;
     /// if let Some((first, second)) = map.get_disjoint_mut([a, b]) {
     ///     *first = *second;
     /// }
     /// assert_eq!(map.get(a), Some(&2));
+    /// # Ok(())
+    /// # }
     /// ```
     ///
     /// # Proved
@@ -274,6 +358,8 @@ impl<K: Key, V> DenseSlotMap<K, V> {
     /// ensures value { IfSome result (λ pair. AreValuesOf value_of self.old (map_list K.data_of keys) (pair.0.now ∷ pair.1.now ∷ [])) }
     /// ensures valid { IsDense self.old }
     /// ```
+    ///
+    /// Words: [`AreValuesOf`](crate::words#arevaluesof-of-slotmap_core-several), [`CanReplace`](crate::words#canreplace-of-slotmap_core-several), [`IsDense`](crate::words#isdense), [`value_of`](crate::words#value_of-of-slotmap_dense-dense).
     #[inline]
     pub fn get_disjoint_mut(&mut self, keys: [K; 2]) -> Option<(&mut V, &mut V)> {
         if self.can_replace(&keys) {
@@ -290,10 +376,19 @@ impl<K: Key, V> DenseSlotMap<K, V> {
     /// `unsafe`. As at `get_disjoint_mut`, the contract doesn't say what the map holds once the
     /// references end. Constant time.
     ///
-    /// ```ignore
+    /// ```
+    /// # use slotmap_proved::{DefaultKey, Global, Key};
+    /// # use slotmap_proved::fallible::DenseSlotMap;
+    /// # fn main() -> Result<(), Box<dyn std::error::Error>> {
+    /// # let alloc = Global;
+    /// # let mut map: DenseSlotMap<DefaultKey, u64> = DenseSlotMap::new(alloc)?;
+    /// # let a = map.insert(1)?;
+    /// # let b = map.insert(2)?;
     /// let (first, second) = map.get_disjoint_unchecked_mut([a, b]);
     /// *first = *second;
     /// assert_eq!(map.get(a), Some(&2));
+    /// # Ok(())
+    /// # }
     /// ```
     ///
     /// # Proved
@@ -303,6 +398,8 @@ impl<K: Key, V> DenseSlotMap<K, V> {
     /// ensures value { AreValuesOf value_of self.old (map_list K.data_of keys) (result.0.now ∷ result.1.now ∷ []) }
     /// ensures valid { IsDense self.old }
     /// ```
+    ///
+    /// Words: [`AreValuesOf`](crate::words#arevaluesof-of-slotmap_core-several), [`CanReplace`](crate::words#canreplace-of-slotmap_core-several), [`IsDense`](crate::words#isdense), [`value_of`](crate::words#value_of-of-slotmap_dense-dense).
     #[inline]
     pub fn get_disjoint_unchecked_mut(&mut self, keys: [K; 2]) -> (&mut V, &mut V) {
         assert!(self.can_replace(&keys), "a key is not live, or two keys are equal");
@@ -317,8 +414,17 @@ impl<K: Key, V> Index<K> for DenseSlotMap<K, V> {
     ///
     /// The contract requires that the key is live; in Rust any other key panics. Constant time.
     ///
-    /// ```ignore
+    /// ```
+    /// # use slotmap_proved::{DefaultKey, Global, Key};
+    /// # use slotmap_proved::fallible::DenseSlotMap;
+    /// # fn main() -> Result<(), Box<dyn std::error::Error>> {
+    /// # let alloc = Global;
+    /// # let mut map: DenseSlotMap<DefaultKey, u64> = DenseSlotMap::new(alloc)?;
+    /// # let a = map.insert(1)?;
+    /// # let b = map.insert(2)?;
     /// assert_eq!(map[a] + map[b], 3);
+    /// # Ok(())
+    /// # }
     /// ```
     #[inline]
     fn index(&self, key: K) -> &V {
@@ -332,9 +438,18 @@ impl<K: Key, V> IndexMut<K> for DenseSlotMap<K, V> {
     ///
     /// The contract requires that the key is live; in Rust any other key panics. Constant time.
     ///
-    /// ```ignore
+    /// ```
+    /// # use slotmap_proved::{DefaultKey, Global, Key};
+    /// # use slotmap_proved::fallible::DenseSlotMap;
+    /// # fn main() -> Result<(), Box<dyn std::error::Error>> {
+    /// # let alloc = Global;
+    /// # let mut map: DenseSlotMap<DefaultKey, u64> = DenseSlotMap::new(alloc)?;
+    /// # let a = map.insert(1)?;
+    /// # let b = map.insert(2)?;
     /// map[a] = 5;
     /// assert_eq!(map.get(a), Some(&5));
+    /// # Ok(())
+    /// # }
     /// ```
     ///
     /// # Proved
@@ -345,6 +460,8 @@ impl<K: Key, V> IndexMut<K> for DenseSlotMap<K, V> {
     /// ensures value { map.get self.old.content.live (K.data_of key) ≡ Some result.now }
     /// ensures valid { IsDense self.old }
     /// ```
+    ///
+    /// Words: [`content`](crate::words#content-of-slotmap_dense-dense), [`IsDense`](crate::words#isdense), [`IsLive`](crate::words#islive), [`lends_value`](crate::words#lends_value-of-slotmap_dense-lends), [`live`](crate::words#live).
     #[inline]
     fn index_mut(&mut self, key: K) -> &mut V {
         assert!(self.contains_key(key), "the key is not live");

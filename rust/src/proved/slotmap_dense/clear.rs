@@ -14,10 +14,19 @@ impl<K: Key, V> DenseSlotMap<K, V> {
     /// The keys are removed from the back of the packed order, and the capacity stays. Detached
     /// keys stay detached. Linear in the number of live keys.
     ///
-    /// ```ignore
+    /// ```
+    /// # use slotmap_proved::{DefaultKey, Global, Key};
+    /// # use slotmap_proved::fallible::DenseSlotMap;
+    /// # fn main() -> Result<(), Box<dyn std::error::Error>> {
+    /// # let alloc = Global;
+    /// # let mut map: DenseSlotMap<DefaultKey, u64> = DenseSlotMap::new(alloc)?;
+    /// # let a = map.insert(1)?;
+    /// # let b = map.insert(2)?;
     /// map.clear();
     /// assert!(map.is_empty());
     /// assert!(!map.contains_key(a));
+    /// # Ok(())
+    /// # }
     /// ```
     ///
     /// # Proved
@@ -29,6 +38,8 @@ impl<K: Key, V> DenseSlotMap<K, V> {
     /// ensures freed_order { FreesFromBack self.old self.new }
     /// ensures valid { StaysDense self.old self.new }
     /// ```
+    ///
+    /// Words: [`content`](crate::words#content-of-slotmap_dense-dense), [`FreesFromBack`](crate::words#freesfromback), [`IsEmpty`](crate::words#isempty), [`Leaves`](crate::words#leaves), [`live`](crate::words#live), [`StaysDense`](crate::words#staysdense).
     #[inline]
     pub fn clear(&mut self) {
         self.note_valid();
@@ -40,11 +51,20 @@ impl<K: Key, V> DenseSlotMap<K, V> {
     /// Room for all keys is allocated first. If that fails, `out` doesn't change. Linear in the number
     /// of live keys, and in the length of `out` if it has to grow. Rust lacks this call.
     ///
-    /// ```ignore
+    /// ```
+    /// # use slotmap_proved::{DefaultKey, Global, Key};
+    /// # use slotmap_proved::fallible::{DenseSlotMap, Vec};
+    /// # fn main() -> Result<(), Box<dyn std::error::Error>> {
+    /// # let alloc = Global;
+    /// # let mut map: DenseSlotMap<DefaultKey, u64> = DenseSlotMap::new(alloc)?;
+    /// # let a = map.insert(1)?;
+    /// # let b = map.insert(2)?;
     /// let mut keys = Vec::new(alloc);
     /// map.keys_into(&mut keys)?;
     /// assert_eq!(keys.len(), 2);
     /// assert_eq!(keys[0], a);
+    /// # Ok(())
+    /// # }
     /// ```
     ///
     /// # Proved
@@ -55,6 +75,8 @@ impl<K: Key, V> DenseSlotMap<K, V> {
     /// ensures unchanged { OnErr result (out.new.items ≡ out.old.items) }
     /// ensures valid { IsDense self.now }
     /// ```
+    ///
+    /// Words: [`content`](crate::words#content-of-slotmap_dense-dense), [`IsDense`](crate::words#isdense), [`IsKeyListing`](crate::words#iskeylisting), [`keys`](crate::words#keys-of-slotmap_dense-dense), [`live`](crate::words#live).
     #[inline]
     pub fn keys_into(&self, out: &mut Vec<K>) -> Result<(), OutOfMemory> {
         self.note_valid();
@@ -69,24 +91,37 @@ impl<K: Key, V> DenseSlotMap<K, V> {
     /// is allocated first. If that fails, neither the map nor `out` changes. Linear in the number of
     /// live keys, and in the length of `out` if it has to grow. Rust lacks this call.
     ///
-    /// ```ignore
+    /// ```
+    /// # use slotmap_proved::{DefaultKey, Global, Key};
+    /// # use slotmap_proved::fallible::{DenseSlotMap, Vec};
+    /// # fn main() -> Result<(), Box<dyn std::error::Error>> {
+    /// # let alloc = Global;
+    /// # let mut map: DenseSlotMap<DefaultKey, u64> = DenseSlotMap::new(alloc)?;
+    /// # let a = map.insert(1)?;
+    /// # let b = map.insert(2)?;
     /// let mut pairs = Vec::new(alloc);
     /// map.drain_into(&mut pairs)?;
     /// assert_eq!(pairs[0], (b, 2));
     /// assert!(map.is_empty());
+    /// # Ok(())
+    /// # }
     /// ```
     ///
     /// # Proved
     ///
     /// ```text
     /// ensures ok { OnOk result ((pairs : List (K × V)) × (out.new.items ≡ out.old.items ++ pairs) × IsListing self.old.content.live (list_map (λ p. (K.data_of p.0, p.1)) pairs)) }
-    /// ensures in_order { OnOk result (list_map (λ p. (K.data_of p.0, p.1)) out.new.items ≡ list_map (λ p. (K.data_of p.0, p.1)) out.old.items ++ reverse (zip self.old.keys self.old.values)) }
+    /// ensures in_order { OnOk result (list_map (λ p. (K.data_of p.0, p.1)) out.new.items
+    ///     ≡ list_map (λ p. (K.data_of p.0, p.1)) out.old.items ++ reverse (zip self.old.keys self.old.values)) }
     /// ensures empty { OnOk result (self.new.content.live ≡ map.empty) }
     /// ensures leaves { OnOk result (Leaves self.old.content self.new.content) }
     /// ensures freed_order { OnOk result (FreesFromBack self.old self.new) }
+    ///
     /// ensures unchanged { OnErr result ((self.new ≡ self.old) × (out.new.items ≡ out.old.items)) }
     /// ensures valid { StaysDense self.old self.new }
     /// ```
+    ///
+    /// Words: [`content`](crate::words#content-of-slotmap_dense-dense), [`FreesFromBack`](crate::words#freesfromback), [`IsListing`](crate::words#islisting), [`keys`](crate::words#keys-of-slotmap_dense-dense), [`Leaves`](crate::words#leaves), [`live`](crate::words#live), [`StaysDense`](crate::words#staysdense), [`values`](crate::words#values).
     #[inline]
     pub fn drain_into(&mut self, out: &mut Vec<(K, V)>) -> Result<(), OutOfMemory> {
         out.reserve(self.len())?;

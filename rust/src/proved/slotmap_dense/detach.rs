@@ -18,11 +18,20 @@ impl<K: Key, V> DenseSlotMap<K, V> {
     /// moves to the position of the detached one in the packed order. Detaching retires no slot and
     /// allocates nothing. Constant time.
     ///
-    /// ```ignore
+    /// ```
+    /// # use slotmap_proved::{DefaultKey, Global, Key};
+    /// # use slotmap_proved::fallible::DenseSlotMap;
+    /// # fn main() -> Result<(), Box<dyn std::error::Error>> {
+    /// # let alloc = Global;
+    /// # let mut map: DenseSlotMap<DefaultKey, u64> = DenseSlotMap::new(alloc)?;
+    /// # let a = map.insert(1)?;
+    /// # let b = map.insert(2)?;
     /// assert_eq!(map.detach(a), Some(1));
     /// assert_eq!(map.get(a), None);
     /// map.reattach(a, 6)?;
     /// assert_eq!(map.get(a), Some(&6));
+    /// # Ok(())
+    /// # }
     /// ```
     ///
     /// # Proved
@@ -35,6 +44,8 @@ impl<K: Key, V> DenseSlotMap<K, V> {
     /// ensures unchanged { IfNone result (self.new ≡ self.old) }
     /// ensures valid { StaysDense self.old self.new }
     /// ```
+    ///
+    /// Words: [`ClosesGap`](crate::words#closesgap), [`content`](crate::words#content-of-slotmap_dense-dense), [`Detaches`](crate::words#detaches), [`live`](crate::words#live), [`StaysDense`](crate::words#staysdense).
     #[inline(always)]
     pub fn detach(&mut self, key: K) -> Option<V> {
         let position = self.slots.detach(key.data())?;
@@ -49,11 +60,20 @@ impl<K: Key, V> DenseSlotMap<K, V> {
     /// If room was reserved, it doesn't fail with `Memory`, and the capacity stays. Constant time, unless the
     /// vectors grow.
     ///
-    /// ```ignore
+    /// ```
+    /// # use slotmap_proved::{DefaultKey, Global, Key, ReattachError};
+    /// # use slotmap_proved::fallible::DenseSlotMap;
+    /// # fn main() -> Result<(), Box<dyn std::error::Error>> {
+    /// # let alloc = Global;
+    /// # let mut map: DenseSlotMap<DefaultKey, u64> = DenseSlotMap::new(alloc)?;
+    /// # let a = map.insert(1)?;
+    /// # let b = map.insert(2)?;
     /// map.detach(a);
     /// map.reattach(a, 5)?;
     /// assert_eq!(map.get(a), Some(&5));
     /// assert!(matches!(map.reattach(b, 6), Err(ReattachError::NotDetached(6))));
+    /// # Ok(())
+    /// # }
     /// ```
     ///
     /// # Proved
@@ -65,6 +85,8 @@ impl<K: Key, V> DenseSlotMap<K, V> {
     /// ensures unchanged { OnErr result (Keeps self.old.content self.new.content) }
     /// ensures valid { GrowsDense self.old (IsErr result) self.new }
     /// ```
+    ///
+    /// Words: [`Appends`](crate::words#appends), [`content`](crate::words#content-of-slotmap_dense-dense), [`GrowsDense`](crate::words#growsdense), [`Keeps`](crate::words#keeps), [`Reattaches`](crate::words#reattaches), [`RefusesReattach`](crate::words#refusesreattach).
     #[inline(always)]
     pub fn reattach(&mut self, key: K, value: V) -> Result<(), ReattachError<V>> {
         let data = key.data();

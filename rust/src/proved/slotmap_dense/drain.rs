@@ -69,13 +69,22 @@ impl<K: Key, V> DenseSlotMap<K, V> {
     /// the iterator early removes the remaining keys too. Detached keys stay detached. Each step
     /// takes constant time. Dropping it takes time linear in the number of keys that are left.
     ///
-    /// ```ignore
+    /// ```
+    /// # use slotmap_proved::{DefaultKey, Global, Key};
+    /// # use slotmap_proved::fallible::DenseSlotMap;
+    /// # fn main() -> Result<(), Box<dyn std::error::Error>> {
+    /// # let alloc = Global;
+    /// # let mut map: DenseSlotMap<DefaultKey, u64> = DenseSlotMap::new(alloc)?;
+    /// # let a = map.insert(1)?;
+    /// # let b = map.insert(2)?;
     /// let mut sum = 0;
     /// for (_, value) in map.drain() {
     ///     sum += value;
     /// }
     /// assert_eq!(sum, 3);
     /// assert!(map.is_empty());
+    /// # Ok(())
+    /// # }
     /// ```
     ///
     /// # Proved
@@ -89,6 +98,8 @@ impl<K: Key, V> DenseSlotMap<K, V> {
     /// ensures in_order { Along (DenseDrainSteps K.data_of) (DrainsFromBack K.data_of) result }
     /// ensures valid { IsDense self.old }
     /// ```
+    ///
+    /// Words: [`Along`](crate::words#along), [`dense_drain_live`](crate::words#dense_drain_live), [`dense_drain_loan`](crate::words#dense_drain_loan), [`DenseDrainSteps`](crate::words#densedrainsteps), [`DrainsFromBack`](crate::words#drainsfromback), [`EmptiesDense`](crate::words#emptiesdense), [`IsDense`](crate::words#isdense), [`KeepsAlong`](crate::words#keepsalong), [`KeepsLoan`](crate::words#keepsloan), [`ListsAlong`](crate::words#listsalong).
     #[inline]
     pub fn drain(&mut self) -> Drain<'_, K, V> {
         self.note_valid();

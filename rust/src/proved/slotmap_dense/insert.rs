@@ -62,11 +62,20 @@ impl<K: Key, V> DenseSlotMap<K, V> {
     /// memory runs out. The error holds the value, and the map holds what it held. In Rust a full
     /// map panics, and running out of memory aborts. Constant time, unless the vectors grow.
     ///
-    /// ```ignore
+    /// ```
+    /// # use slotmap_proved::{DefaultKey, Global, Key};
+    /// # use slotmap_proved::fallible::DenseSlotMap;
+    /// # fn main() -> Result<(), Box<dyn std::error::Error>> {
+    /// # let alloc = Global;
+    /// # let mut map: DenseSlotMap<DefaultKey, u64> = DenseSlotMap::new(alloc)?;
+    /// # let a = map.insert(1)?;
+    /// # let b = map.insert(2)?;
     /// map.remove(a);
     /// let c = map.insert(3)?;
     /// assert_eq!(c.data().idx(), a.data().idx());
     /// assert!(c != a);
+    /// # Ok(())
+    /// # }
     /// ```
     ///
     /// # Proved
@@ -75,8 +84,11 @@ impl<K: Key, V> DenseSlotMap<K, V> {
     /// ensures ok { IfOk result (λ key. Inserts self.old.content (K.data_of key) value self.new.content) }
     /// ensures order { IfOk result (λ key. Appends self.old (K.data_of key) value self.new) }
     /// ensures err { IfErr result (λ error. Refuses self.old.content value error) }
+    ///
     /// ensures valid { GrowsDense self.old (IsErr result) self.new }
     /// ```
+    ///
+    /// Words: [`Appends`](crate::words#appends), [`content`](crate::words#content-of-slotmap_dense-dense), [`GrowsDense`](crate::words#growsdense), [`Inserts`](crate::words#inserts), [`Refuses`](crate::words#refuses).
     #[inline(always)]
     pub fn insert(&mut self, value: V) -> Result<K, InsertError<V>> {
         if self.has_room() {
@@ -95,19 +107,33 @@ impl<K: Key, V> DenseSlotMap<K, V> {
     /// closure. Then the closure is called once, with the key that the call will return. In Rust
     /// the closure runs before the vectors grow. Costs as `insert`.
     ///
-    /// ```ignore
+    /// ```
+    /// # use slotmap_proved::{DefaultKey, Global, Key};
+    /// # use slotmap_proved::fallible::DenseSlotMap;
+    /// # fn main() -> Result<(), Box<dyn std::error::Error>> {
+    /// # let alloc = Global;
+    /// # let mut map: DenseSlotMap<DefaultKey, u64> = DenseSlotMap::new(alloc)?;
+    /// # let a = map.insert(1)?;
+    /// # let b = map.insert(2)?;
     /// let c = map.insert_with_key(|key: DefaultKey| key.data().as_ffi())?;
     /// assert_eq!(map.get(c), Some(&c.data().as_ffi()));
+    /// # Ok(())
+    /// # }
     /// ```
     ///
     /// # Proved
     ///
     /// ```text
     /// requires { used self.old.content < most → (key : K) → K.data_of key ≡ self.old.content.offer → F.pre f key }
-    /// ensures ok { IfOk result (λ key. (v : V) × F.post f key v × Inserts self.old.content (K.data_of key) v self.new.content × Appends self.old (K.data_of key) v self.new) }
+    ///
+    /// ensures ok { IfOk result (λ key. (v : V) × F.post f key v
+    ///     × Inserts self.old.content (K.data_of key) v self.new.content × Appends self.old (K.data_of key) v self.new) }
     /// ensures err { IfErr result (RefusesInsert self.old.content) }
+    ///
     /// ensures valid { GrowsDense self.old (IsErr result) self.new }
     /// ```
+    ///
+    /// Words: [`Appends`](crate::words#appends), [`content`](crate::words#content-of-slotmap_dense-dense), [`GrowsDense`](crate::words#growsdense), [`Inserts`](crate::words#inserts), [`most`](crate::words#most), [`offer`](crate::words#offer), [`RefusesInsert`](crate::words#refusesinsert), [`used`](crate::words#used).
     #[inline]
     pub fn insert_with_key<F: FnOnce(K) -> V>(&mut self, f: F) -> Result<K, InsertWithError>
     where
@@ -125,20 +151,34 @@ impl<K: Key, V> DenseSlotMap<K, V> {
     /// closure's error is returned in `Closure`. The next insert returns the key that the closure
     /// was called with. Costs as `insert`. In Rust the closure's error alone is returned.
     ///
-    /// ```ignore
+    /// ```
+    /// # use slotmap_proved::{DefaultKey, Global, Key, TryInsertError};
+    /// # use slotmap_proved::fallible::DenseSlotMap;
+    /// # fn main() -> Result<(), Box<dyn std::error::Error>> {
+    /// # let alloc = Global;
+    /// # let mut map: DenseSlotMap<DefaultKey, u64> = DenseSlotMap::new(alloc)?;
+    /// # let a = map.insert(1)?;
+    /// # let b = map.insert(2)?;
     /// let made: Result<DefaultKey, TryInsertError<u64>> = map.try_insert_with_key(|_| Err(7));
     /// assert!(matches!(made, Err(TryInsertError::Closure(7))));
     /// assert_eq!(map.len(), 2);
+    /// # Ok(())
+    /// # }
     /// ```
     ///
     /// # Proved
     ///
     /// ```text
     /// requires { used self.old.content < most → (key : K) → K.data_of key ≡ self.old.content.offer → F.pre f key }
-    /// ensures ok { IfOk result (λ key. (v : V) × F.post f key (Ok v) × Inserts self.old.content (K.data_of key) v self.new.content × Appends self.old (K.data_of key) v self.new) }
+    ///
+    /// ensures ok { IfOk result (λ key. (v : V) × F.post f key (Ok v)
+    ///     × Inserts self.old.content (K.data_of key) v self.new.content × Appends self.old (K.data_of key) v self.new) }
     /// ensures err { IfErr result (λ error. RefusesWith K.data_of (F.post f) self.old.content error) }
+    ///
     /// ensures valid { GrowsDense self.old (IsErr result) self.new }
     /// ```
+    ///
+    /// Words: [`Appends`](crate::words#appends), [`content`](crate::words#content-of-slotmap_dense-dense), [`GrowsDense`](crate::words#growsdense), [`Inserts`](crate::words#inserts), [`most`](crate::words#most), [`offer`](crate::words#offer), [`RefusesWith`](crate::words#refuseswith), [`used`](crate::words#used).
     #[inline]
     pub fn try_insert_with_key<F, E>(&mut self, f: F) -> Result<K, TryInsertError<E>>
     where

@@ -17,11 +17,20 @@ use crate::rt::std::iter::FusedIterator;
 /// yield. After its end it yields nothing. All its steps together are linear in the number of live
 /// keys, and allocate nothing. Dropping it drops the values that are left.
 ///
-/// ```ignore
+/// ```
+/// # use slotmap_proved::{DefaultKey, Global, Key};
+/// # use slotmap_proved::fallible::DenseSlotMap;
+/// # fn main() -> Result<(), Box<dyn std::error::Error>> {
+/// # let alloc = Global;
+/// # let mut map: DenseSlotMap<DefaultKey, u64> = DenseSlotMap::new(alloc)?;
+/// # let a = map.insert(1)?;
+/// # let b = map.insert(2)?;
 /// let mut pairs = map.into_iter();
 /// assert_eq!(pairs.next(), Some((a, 1)));
 /// assert_eq!(pairs.next(), Some((b, 2)));
 /// assert_eq!(pairs.next(), None);
+/// # Ok(())
+/// # }
 /// ```
 pub struct IntoIter<K: Key, V> {
     keys: Vec<K>,
@@ -36,10 +45,19 @@ impl<K: Key, V> IntoIter<K, V> {
     ///
     /// Constant time.
     ///
-    /// ```ignore
+    /// ```
+    /// # use slotmap_proved::{DefaultKey, Global, Key};
+    /// # use slotmap_proved::fallible::DenseSlotMap;
+    /// # fn main() -> Result<(), Box<dyn std::error::Error>> {
+    /// # let alloc = Global;
+    /// # let mut map: DenseSlotMap<DefaultKey, u64> = DenseSlotMap::new(alloc)?;
+    /// # let a = map.insert(1)?;
+    /// # let b = map.insert(2)?;
     /// let mut pairs = map.into_iter();
     /// pairs.next();
     /// assert_eq!(pairs.len(), 1);
+    /// # Ok(())
+    /// # }
     /// ```
     ///
     /// # Proved
@@ -60,11 +78,20 @@ impl<K: Key, V: Clone> IntoIter<K, V> {
     /// unchanged. It copies every key of the map, and clones the values that are left: linear in
     /// the number of keys that the map had.
     ///
-    /// ```ignore
+    /// ```
+    /// # use slotmap_proved::{DefaultKey, Global, Key};
+    /// # use slotmap_proved::fallible::DenseSlotMap;
+    /// # fn main() -> Result<(), Box<dyn std::error::Error>> {
+    /// # let alloc = Global;
+    /// # let mut map: DenseSlotMap<DefaultKey, u64> = DenseSlotMap::new(alloc)?;
+    /// # let a = map.insert(1)?;
+    /// # let b = map.insert(2)?;
     /// let pairs = map.into_iter();
     /// let mut copy = pairs.clone()?;
     /// assert_eq!(copy.next(), Some((a, 1)));
     /// assert_eq!(pairs.len(), 2);
+    /// # Ok(())
+    /// # }
     /// ```
     ///
     /// # Proved
@@ -73,6 +100,8 @@ impl<K: Key, V: Clone> IntoIter<K, V> {
     /// ensures clones { IfOk result (AreClones V.is_clone self.now) }
     /// ensures copies_if_clones_equal { IfOk result (λ copy. ClonesEqual V.is_clone → copy ≡ self.now) }
     /// ```
+    ///
+    /// Words: [`AreClones`](crate::words#areclones), [`ClonesEqual`](crate::words#clonesequal).
     #[inline]
     pub fn clone(&self) -> Result<Self, AllocError> {
         Ok(IntoIter {

@@ -58,10 +58,19 @@ impl<'a, K: Key, V> IterMut<'a, K, V> {
     ///
     /// Constant time.
     ///
-    /// ```ignore
+    /// ```
+    /// # use slotmap_proved::{DefaultKey, Global, Key};
+    /// # use slotmap_proved::fallible::DenseSlotMap;
+    /// # fn main() -> Result<(), Box<dyn std::error::Error>> {
+    /// # let alloc = Global;
+    /// # let mut map: DenseSlotMap<DefaultKey, u64> = DenseSlotMap::new(alloc)?;
+    /// # let a = map.insert(1)?;
+    /// # let b = map.insert(2)?;
     /// let mut pairs = map.iter_mut();
     /// pairs.next();
     /// assert_eq!(pairs.len(), 1);
+    /// # Ok(())
+    /// # }
     /// ```
     ///
     /// # Proved
@@ -69,6 +78,8 @@ impl<'a, K: Key, V> IterMut<'a, K, V> {
     /// ```text
     /// ensures { result ≡ length (iter_mut_rest K.data_of self.now) }
     /// ```
+    ///
+    /// Words: [`iter_mut_rest`](crate::words#iter_mut_rest).
     #[inline]
     pub fn len(&self) -> usize {
         self.keys.len().min(self.values.len())
@@ -120,10 +131,19 @@ impl<'a, K, V> ValuesMut<'a, K, V> {
     ///
     /// Constant time.
     ///
-    /// ```ignore
+    /// ```
+    /// # use slotmap_proved::{DefaultKey, Global, Key};
+    /// # use slotmap_proved::fallible::DenseSlotMap;
+    /// # fn main() -> Result<(), Box<dyn std::error::Error>> {
+    /// # let alloc = Global;
+    /// # let mut map: DenseSlotMap<DefaultKey, u64> = DenseSlotMap::new(alloc)?;
+    /// # let a = map.insert(1)?;
+    /// # let b = map.insert(2)?;
     /// let mut values = map.values_mut();
     /// values.next();
     /// assert_eq!(values.len(), 1);
+    /// # Ok(())
+    /// # }
     /// ```
     ///
     /// # Proved
@@ -131,6 +151,8 @@ impl<'a, K, V> ValuesMut<'a, K, V> {
     /// ```text
     /// ensures { result ≡ length (values_mut_rest self.now) }
     /// ```
+    ///
+    /// Words: [`values_mut_rest`](crate::words#values_mut_rest).
     #[inline]
     pub fn len(&self) -> usize {
         self.values.len()
@@ -146,11 +168,20 @@ impl<K: Key, V> DenseSlotMap<K, V> {
     /// Which reference wrote which value is tested, and is in no contract. It is made in constant
     /// time and allocates nothing.
     ///
-    /// ```ignore
+    /// ```
+    /// # use slotmap_proved::{DefaultKey, Global, Key};
+    /// # use slotmap_proved::fallible::DenseSlotMap;
+    /// # fn main() -> Result<(), Box<dyn std::error::Error>> {
+    /// # let alloc = Global;
+    /// # let mut map: DenseSlotMap<DefaultKey, u64> = DenseSlotMap::new(alloc)?;
+    /// # let a = map.insert(1)?;
+    /// # let b = map.insert(2)?;
     /// for (_, value) in map.iter_mut() {
     ///     *value += 10;
     /// }
     /// assert_eq!(map.get(a), Some(&11));
+    /// # Ok(())
+    /// # }
     /// ```
     ///
     /// # Proved
@@ -161,6 +192,8 @@ impl<K: Key, V> DenseSlotMap<K, V> {
     /// ensures ready { IterMutCanStep result }
     /// ensures valid { IsDense self.old }
     /// ```
+    ///
+    /// Words: [`IsDense`](crate::words#isdense), [`iter_mut_name`](crate::words#iter_mut_name), [`iter_mut_rest`](crate::words#iter_mut_rest), [`IterMutCanStep`](crate::words#itermutcanstep), [`keys`](crate::words#keys-of-slotmap_dense-dense), [`lends_iter`](crate::words#lends_iter), [`values`](crate::words#values).
     #[inline]
     pub fn iter_mut(&mut self) -> IterMut<'_, K, V> {
         IterMut {
@@ -174,11 +207,20 @@ impl<K: Key, V> DenseSlotMap<K, V> {
     /// Once it ends, the values are written as by [`DenseSlotMap::iter_mut`]. Here too, which
     /// reference wrote which value is tested, and is in no contract. It costs the same.
     ///
-    /// ```ignore
+    /// ```
+    /// # use slotmap_proved::{DefaultKey, Global, Key};
+    /// # use slotmap_proved::fallible::DenseSlotMap;
+    /// # fn main() -> Result<(), Box<dyn std::error::Error>> {
+    /// # let alloc = Global;
+    /// # let mut map: DenseSlotMap<DefaultKey, u64> = DenseSlotMap::new(alloc)?;
+    /// # let a = map.insert(1)?;
+    /// # let b = map.insert(2)?;
     /// for value in map.values_mut() {
     ///     *value += 10;
     /// }
     /// assert_eq!(map.get(b), Some(&12));
+    /// # Ok(())
+    /// # }
     /// ```
     ///
     /// # Proved
@@ -189,6 +231,8 @@ impl<K: Key, V> DenseSlotMap<K, V> {
     /// ensures runs { YieldsMutRefsInOrder (values_mut_steps {K = K} {V = V}) values_mut_rest }
     /// ensures valid { IsDense self.old }
     /// ```
+    ///
+    /// Words: [`IsDense`](crate::words#isdense), [`lends_iter`](crate::words#lends_iter), [`values`](crate::words#values), [`values_mut_name`](crate::words#values_mut_name), [`values_mut_rest`](crate::words#values_mut_rest), [`values_mut_steps`](crate::words#values_mut_steps).
     #[inline]
     pub fn values_mut(&mut self) -> ValuesMut<'_, K, V> {
         ValuesMut {

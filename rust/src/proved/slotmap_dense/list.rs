@@ -37,11 +37,20 @@ impl<K: Key, V> DenseSlotMap<K, V> {
     /// reads the list back, except that of a map with 4294967294 slots, which is too long. In Rust
     /// `Serialize` writes the same records.
     ///
-    /// ```ignore
+    /// ```
+    /// # use slotmap_proved::{DefaultKey, Global, Key, list};
+    /// # use slotmap_proved::fallible::DenseSlotMap;
+    /// # fn main() -> Result<(), Box<dyn std::error::Error>> {
+    /// # let alloc = Global;
+    /// # let mut map: DenseSlotMap<DefaultKey, u64> = DenseSlotMap::new(alloc)?;
+    /// # let a = map.insert(1)?;
+    /// # let b = map.insert(2)?;
     /// let list = map.to_slots()?;
     /// assert_eq!(list.len(), 3);
     /// assert_eq!(list[a.data().idx() as usize].value, Some(1));
     /// assert_eq!(list[a.data().idx() as usize].version, a.data().version());
+    /// # Ok(())
+    /// # }
     /// ```
     ///
     /// # Proved
@@ -50,11 +59,15 @@ impl<K: Key, V> DenseSlotMap<K, V> {
     /// // The list is that of a copy, and has a clone under each live key.
     /// ensures writes { IfOk result (λ list. WritesClones V.is_clone false self.now.content list.items) }
     /// ensures contents { IfOk result (λ list. (k : KeyOf) → IsCloneOf V.is_clone (map.get self.now.content.live k) (map.get (start_live list.items) k)) }
+    ///
     /// // Where clones equal their values, it is the map's own list.
     /// ensures writes_if_clones_equal { IfOk result (λ list. ClonesEqual V.is_clone → Writes self.now.content list.items) }
     /// ensures contents_if_clones_equal { IfOk result (λ list. ClonesEqual V.is_clone → start_live list.items ≡ self.now.content.live) }
+    ///
     /// ensures valid { IsDense self.now }
     /// ```
+    ///
+    /// Words: [`ClonesEqual`](crate::words#clonesequal), [`content`](crate::words#content-of-slotmap_dense-dense), [`IsCloneOf`](crate::words#iscloneof), [`IsDense`](crate::words#isdense), [`Key`](crate::words#key), [`live`](crate::words#live), [`start_live`](crate::words#start_live), [`Writes`](crate::words#writes), [`WritesClones`](crate::words#writesclones).
     #[inline]
     pub fn to_slots(&self) -> Result<Vec<SlotRecord<V>>, OutOfMemory>
     where
@@ -93,7 +106,14 @@ impl<K: Key, V> DenseSlotMap<K, V> {
     /// `Deserialize` reads such a list, and version 0 is that of a vacant slot, so the versions of a
     /// slot wrap around.
     ///
-    /// ```ignore
+    /// ```
+    /// # use slotmap_proved::{DefaultKey, Global, Key, KeyData, list, SlotRecord};
+    /// # use slotmap_proved::fallible::{DenseSlotMap, Vec};
+    /// # fn main() -> Result<(), Box<dyn std::error::Error>> {
+    /// # let alloc = Global;
+    /// # let mut map: DenseSlotMap<DefaultKey, u64> = DenseSlotMap::new(alloc)?;
+    /// # let a = map.insert(1)?;
+    /// # let b = map.insert(2)?;
     /// let mut list = Vec::new(alloc);
     /// list.push(SlotRecord { value: None, version: 0 })?;
     /// list.push(SlotRecord { value: Some(7), version: 3 })?;
@@ -101,6 +121,8 @@ impl<K: Key, V> DenseSlotMap<K, V> {
     /// let mut made: DenseSlotMap<DefaultKey, u64> = DenseSlotMap::from_slots(alloc, list)?;
     /// assert_eq!(made.get(DefaultKey::from(KeyData::new(1, 3))), Some(&7));
     /// assert_eq!(made.insert(8)?.data(), KeyData::new(2, 3));
+    /// # Ok(())
+    /// # }
     /// ```
     ///
     /// # Proved
@@ -113,6 +135,8 @@ impl<K: Key, V> DenseSlotMap<K, V> {
     /// ensures err { IfErr result (RefusesStart list.items list_limit) }
     /// ensures valid { IfOk result IsDense }
     /// ```
+    ///
+    /// Words: [`Accepts`](crate::words#accepts), [`content`](crate::words#content-of-slotmap_dense-dense), [`IsDense`](crate::words#isdense), [`list_limit`](crate::words#list_limit), [`live`](crate::words#live), [`ReadsAs`](crate::words#readsas), [`RefusesStart`](crate::words#refusesstart), [`stack`](crate::words#stack), [`start_stack`](crate::words#start_stack).
     #[inline]
     pub fn from_slots(alloc: Global, list: Vec<SlotRecord<V>>) -> Result<Self, SlotsError> {
         check_slots(&list, LIST_LIMIT)?;

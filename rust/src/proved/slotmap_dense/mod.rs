@@ -8,7 +8,7 @@
 //! Each example comes after these lines:
 //!
 //! ```text
-//! let alloc = rt.alloc();
+//! let alloc = Global;
 //! let mut map: DenseSlotMap<DefaultKey, u64> = DenseSlotMap::new(alloc)?;
 //! let a = map.insert(1)?;
 //! let b = map.insert(2)?;
@@ -60,11 +60,20 @@ use crate::rt::std::fmt;
 /// A live key can be detached: its value is taken out, and its slot is kept until `reattach` binds
 /// the key to a value again. At most 4294967294 keys can be live, detached or retired.
 ///
-/// ```ignore
+/// ```
+/// # use slotmap_proved::{DefaultKey, Global, Key};
+/// # use slotmap_proved::fallible::DenseSlotMap;
+/// # fn main() -> Result<(), Box<dyn std::error::Error>> {
+/// # let alloc = Global;
+/// # let mut map: DenseSlotMap<DefaultKey, u64> = DenseSlotMap::new(alloc)?;
+/// # let a = map.insert(1)?;
+/// # let b = map.insert(2)?;
 /// let key = map.insert(5)?;
 /// assert_eq!(map.get(key), Some(&5));
 /// assert_eq!(map.remove(key), Some(5));
 /// assert!(!map.contains_key(key));
+/// # Ok(())
+/// # }
 /// ```
 pub struct DenseSlotMap<K: Key, V> {
     // The position of each live key.
@@ -100,10 +109,19 @@ impl<V> DenseSlotMap<DefaultKey, V> {
     /// It allocates slot 0, which no key uses, and fails with `Memory` if memory runs out. Constant time,
     /// the allocations aside.
     ///
-    /// ```ignore
+    /// ```
+    /// # use slotmap_proved::{DefaultKey, Global, Key, KeyData};
+    /// # use slotmap_proved::fallible::DenseSlotMap;
+    /// # fn main() -> Result<(), Box<dyn std::error::Error>> {
+    /// # let alloc = Global;
+    /// # let mut map: DenseSlotMap<DefaultKey, u64> = DenseSlotMap::new(alloc)?;
+    /// # let a = map.insert(1)?;
+    /// # let b = map.insert(2)?;
     /// let mut empty: DenseSlotMap<DefaultKey, u64> = DenseSlotMap::new(alloc)?;
     /// assert!(empty.is_empty());
     /// assert_eq!(empty.insert(5)?.data(), KeyData::new(1, 1));
+    /// # Ok(())
+    /// # }
     /// ```
     ///
     /// # Proved
@@ -115,6 +133,8 @@ impl<V> DenseSlotMap<DefaultKey, V> {
     /// ensures err { IfErr result (λ error. error ≡ ReserveError.Memory) }
     /// ensures valid { IfOk result IsDense }
     /// ```
+    ///
+    /// Words: [`content`](crate::words#content-of-slotmap_dense-dense), [`IsDense`](crate::words#isdense), [`IsEmpty`](crate::words#isempty), [`IsNew`](crate::words#isnew), [`stack`](crate::words#stack).
     #[inline]
     pub fn new(alloc: Global) -> Result<Self, ReserveError> {
         DenseSlotMap::with_key(alloc)
@@ -125,10 +145,19 @@ impl<V> DenseSlotMap<DefaultKey, V> {
     /// The next `capacity` inserts succeed. It fails with `TooGreat` if `capacity` is over
     /// 4294967294, and with `Memory` if memory runs out. Constant time, the allocations aside.
     ///
-    /// ```ignore
+    /// ```
+    /// # use slotmap_proved::{DefaultKey, Global, Key};
+    /// # use slotmap_proved::fallible::DenseSlotMap;
+    /// # fn main() -> Result<(), Box<dyn std::error::Error>> {
+    /// # let alloc = Global;
+    /// # let mut map: DenseSlotMap<DefaultKey, u64> = DenseSlotMap::new(alloc)?;
+    /// # let a = map.insert(1)?;
+    /// # let b = map.insert(2)?;
     /// let roomy: DenseSlotMap<DefaultKey, u64> = DenseSlotMap::with_capacity(alloc, 10)?;
     /// assert!(roomy.is_empty());
     /// assert!(roomy.capacity() >= 10);
+    /// # Ok(())
+    /// # }
     /// ```
     ///
     /// # Proved
@@ -142,6 +171,8 @@ impl<V> DenseSlotMap<DefaultKey, V> {
     /// ensures err { IfErr result (RefusesCapacity capacity) }
     /// ensures valid { IfOk result IsDense }
     /// ```
+    ///
+    /// Words: [`capacity`](crate::words#capacity-of-slotmap_core-content), [`content`](crate::words#content-of-slotmap_dense-dense), [`IsDense`](crate::words#isdense), [`IsEmpty`](crate::words#isempty), [`IsNew`](crate::words#isnew), [`RefusesCapacity`](crate::words#refusescapacity), [`room`](crate::words#room-of-slotmap_core-content), [`stack`](crate::words#stack).
     #[inline]
     pub fn with_capacity(alloc: Global, capacity: usize) -> Result<Self, ReserveError> {
         DenseSlotMap::with_capacity_and_key(alloc, capacity)
@@ -154,10 +185,19 @@ impl<K: Key, V> DenseSlotMap<K, V> {
     /// It allocates slot 0, which no key uses, and fails with `Memory` if memory runs out. Constant time,
     /// the allocations aside.
     ///
-    /// ```ignore
+    /// ```
+    /// # use slotmap_proved::{DefaultKey, Global, Key, NodeKey};
+    /// # use slotmap_proved::fallible::DenseSlotMap;
+    /// # fn main() -> Result<(), Box<dyn std::error::Error>> {
+    /// # let alloc = Global;
+    /// # let mut map: DenseSlotMap<DefaultKey, u64> = DenseSlotMap::new(alloc)?;
+    /// # let a = map.insert(1)?;
+    /// # let b = map.insert(2)?;
     /// let mut nodes: DenseSlotMap<NodeKey, u64> = DenseSlotMap::with_key(alloc)?;
     /// let key: NodeKey = nodes.insert(5)?;
     /// assert_eq!(nodes.get(key), Some(&5));
+    /// # Ok(())
+    /// # }
     /// ```
     ///
     /// # Proved
@@ -169,6 +209,8 @@ impl<K: Key, V> DenseSlotMap<K, V> {
     /// ensures err { IfErr result (λ error. error ≡ ReserveError.Memory) }
     /// ensures valid { IfOk result IsDense }
     /// ```
+    ///
+    /// Words: [`content`](crate::words#content-of-slotmap_dense-dense), [`IsDense`](crate::words#isdense), [`IsEmpty`](crate::words#isempty), [`IsNew`](crate::words#isnew), [`stack`](crate::words#stack).
     #[inline]
     pub fn with_key(alloc: Global) -> Result<Self, ReserveError> {
         DenseSlotMap::with_capacity_and_key(alloc, 0)
@@ -179,9 +221,18 @@ impl<K: Key, V> DenseSlotMap<K, V> {
     /// The next `capacity` inserts succeed. It fails with `TooGreat` if `capacity` is over
     /// 4294967294, and with `Memory` if memory runs out. Constant time, the allocations aside.
     ///
-    /// ```ignore
+    /// ```
+    /// # use slotmap_proved::{DefaultKey, Global, Key, NodeKey};
+    /// # use slotmap_proved::fallible::DenseSlotMap;
+    /// # fn main() -> Result<(), Box<dyn std::error::Error>> {
+    /// # let alloc = Global;
+    /// # let mut map: DenseSlotMap<DefaultKey, u64> = DenseSlotMap::new(alloc)?;
+    /// # let a = map.insert(1)?;
+    /// # let b = map.insert(2)?;
     /// let nodes: DenseSlotMap<NodeKey, u64> = DenseSlotMap::with_capacity_and_key(alloc, 10)?;
     /// assert!(nodes.capacity() >= 10);
+    /// # Ok(())
+    /// # }
     /// ```
     ///
     /// # Proved
@@ -195,6 +246,8 @@ impl<K: Key, V> DenseSlotMap<K, V> {
     /// ensures err { IfErr result (RefusesCapacity capacity) }
     /// ensures valid { IfOk result IsDense }
     /// ```
+    ///
+    /// Words: [`capacity`](crate::words#capacity-of-slotmap_core-content), [`content`](crate::words#content-of-slotmap_dense-dense), [`IsDense`](crate::words#isdense), [`IsEmpty`](crate::words#isempty), [`IsNew`](crate::words#isnew), [`RefusesCapacity`](crate::words#refusescapacity), [`room`](crate::words#room-of-slotmap_core-content), [`stack`](crate::words#stack).
     #[inline]
     pub fn with_capacity_and_key(alloc: Global, capacity: usize) -> Result<Self, ReserveError> {
         let slots = Slots::with_capacity(alloc, capacity)?;
@@ -217,10 +270,19 @@ impl<K: Key, V> DenseSlotMap<K, V> {
     ///
     /// Constant time.
     ///
-    /// ```ignore
+    /// ```
+    /// # use slotmap_proved::{DefaultKey, Global, Key};
+    /// # use slotmap_proved::fallible::DenseSlotMap;
+    /// # fn main() -> Result<(), Box<dyn std::error::Error>> {
+    /// # let alloc = Global;
+    /// # let mut map: DenseSlotMap<DefaultKey, u64> = DenseSlotMap::new(alloc)?;
+    /// # let a = map.insert(1)?;
+    /// # let b = map.insert(2)?;
     /// assert_eq!(map.len(), 2);
     /// map.detach(a);
     /// assert_eq!(map.len(), 1);
+    /// # Ok(())
+    /// # }
     /// ```
     ///
     /// # Proved
@@ -229,6 +291,8 @@ impl<K: Key, V> DenseSlotMap<K, V> {
     /// ensures value { result ≡ map.len self.now.content.live }
     /// ensures valid { IsDense self.now }
     /// ```
+    ///
+    /// Words: [`content`](crate::words#content-of-slotmap_dense-dense), [`IsDense`](crate::words#isdense), [`live`](crate::words#live).
     #[inline]
     pub fn len(&self) -> usize {
         self.keys.len()
@@ -238,10 +302,19 @@ impl<K: Key, V> DenseSlotMap<K, V> {
     ///
     /// Constant time.
     ///
-    /// ```ignore
+    /// ```
+    /// # use slotmap_proved::{DefaultKey, Global, Key};
+    /// # use slotmap_proved::fallible::DenseSlotMap;
+    /// # fn main() -> Result<(), Box<dyn std::error::Error>> {
+    /// # let alloc = Global;
+    /// # let mut map: DenseSlotMap<DefaultKey, u64> = DenseSlotMap::new(alloc)?;
+    /// # let a = map.insert(1)?;
+    /// # let b = map.insert(2)?;
     /// assert!(!map.is_empty());
     /// map.clear();
     /// assert!(map.is_empty());
+    /// # Ok(())
+    /// # }
     /// ```
     ///
     /// # Proved
@@ -250,6 +323,8 @@ impl<K: Key, V> DenseSlotMap<K, V> {
     /// ensures value { IsTrue result ↔ (map.len self.now.content.live ≡ 0) }
     /// ensures valid { IsDense self.now }
     /// ```
+    ///
+    /// Words: [`content`](crate::words#content-of-slotmap_dense-dense), [`IsDense`](crate::words#isdense), [`live`](crate::words#live).
     #[inline]
     pub fn is_empty(&self) -> bool {
         self.len() == 0
@@ -260,10 +335,19 @@ impl<K: Key, V> DenseSlotMap<K, V> {
     /// It is the smallest capacity of the vectors of slots (without slot 0), keys and values. The slots
     /// of detached and retired keys count too. Constant time.
     ///
-    /// ```ignore
+    /// ```
+    /// # use slotmap_proved::{DefaultKey, Global, Key};
+    /// # use slotmap_proved::fallible::DenseSlotMap;
+    /// # fn main() -> Result<(), Box<dyn std::error::Error>> {
+    /// # let alloc = Global;
+    /// # let mut map: DenseSlotMap<DefaultKey, u64> = DenseSlotMap::new(alloc)?;
+    /// # let a = map.insert(1)?;
+    /// # let b = map.insert(2)?;
     /// let before = map.capacity();
     /// map.clear();
     /// assert_eq!(map.capacity(), before);
+    /// # Ok(())
+    /// # }
     /// ```
     ///
     /// # Proved
@@ -272,6 +356,8 @@ impl<K: Key, V> DenseSlotMap<K, V> {
     /// ensures value { result ≡ self.now.content.capacity }
     /// ensures valid { IsDense self.now }
     /// ```
+    ///
+    /// Words: [`capacity`](crate::words#capacity-of-slotmap_core-content), [`content`](crate::words#content-of-slotmap_dense-dense), [`IsDense`](crate::words#isdense).
     #[inline]
     pub fn capacity(&self) -> usize {
         let packed = self.keys.capacity().min(self.values.capacity());
@@ -290,13 +376,22 @@ impl<K: Key, V> DenseSlotMap<K, V> {
     /// If there is room already, the call succeeds and nothing changes. Rust counts detached slots
     /// as free. Linear in the number of slots if the vectors grow, else constant time.
     ///
-    /// ```ignore
+    /// ```
+    /// # use slotmap_proved::{DefaultKey, Global, Key};
+    /// # use slotmap_proved::fallible::DenseSlotMap;
+    /// # fn main() -> Result<(), Box<dyn std::error::Error>> {
+    /// # let alloc = Global;
+    /// # let mut map: DenseSlotMap<DefaultKey, u64> = DenseSlotMap::new(alloc)?;
+    /// # let a = map.insert(1)?;
+    /// # let b = map.insert(2)?;
     /// map.reserve(10)?;
     /// let capacity = map.capacity();
     /// for i in 0..10 {
     ///     map.insert(i)?;
     /// }
     /// assert_eq!(map.capacity(), capacity);
+    /// # Ok(())
+    /// # }
     /// ```
     ///
     /// # Proved
@@ -305,6 +400,8 @@ impl<K: Key, V> DenseSlotMap<K, V> {
     /// ensures makes_room { MakesDenseRoom self.old additional (IsOk result) self.new }
     /// ensures err { IfErr result (RefusesCapacity (used self.old.content + additional)) }
     /// ```
+    ///
+    /// Words: [`content`](crate::words#content-of-slotmap_dense-dense), [`MakesDenseRoom`](crate::words#makesdenseroom), [`RefusesCapacity`](crate::words#refusescapacity), [`used`](crate::words#used).
     #[inline(always)]
     pub fn reserve(&mut self, additional: usize) -> Result<(), ReserveError> {
         make_room_in_slots(&mut self.slots, additional)?;
@@ -318,9 +415,18 @@ impl<K: Key, V> DenseSlotMap<K, V> {
     /// Here `reserve` returns a `Result` too; in Rust it aborts if memory runs out. Costs as
     /// `reserve`.
     ///
-    /// ```ignore
+    /// ```
+    /// # use slotmap_proved::{DefaultKey, Global, Key, ReserveError};
+    /// # use slotmap_proved::fallible::DenseSlotMap;
+    /// # fn main() -> Result<(), Box<dyn std::error::Error>> {
+    /// # let alloc = Global;
+    /// # let mut map: DenseSlotMap<DefaultKey, u64> = DenseSlotMap::new(alloc)?;
+    /// # let a = map.insert(1)?;
+    /// # let b = map.insert(2)?;
     /// assert!(map.try_reserve(10).is_ok());
     /// assert!(matches!(map.try_reserve(4294967295), Err(ReserveError::TooGreat)));
+    /// # Ok(())
+    /// # }
     /// ```
     ///
     /// # Proved
@@ -329,6 +435,8 @@ impl<K: Key, V> DenseSlotMap<K, V> {
     /// ensures makes_room { MakesDenseRoom self.old additional (IsOk result) self.new }
     /// ensures err { IfErr result (RefusesCapacity (used self.old.content + additional)) }
     /// ```
+    ///
+    /// Words: [`content`](crate::words#content-of-slotmap_dense-dense), [`MakesDenseRoom`](crate::words#makesdenseroom), [`RefusesCapacity`](crate::words#refusescapacity), [`used`](crate::words#used).
     #[inline]
     pub fn try_reserve(&mut self, additional: usize) -> Result<(), ReserveError> {
         self.reserve(additional)

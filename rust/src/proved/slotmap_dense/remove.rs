@@ -35,10 +35,19 @@ impl<K: Key, V> DenseSlotMap<K, V> {
     /// one, the slot is retired; in Rust its versions wrap around. Constant time; allocates
     /// nothing.
     ///
-    /// ```ignore
+    /// ```
+    /// # use slotmap_proved::{DefaultKey, Global, Key};
+    /// # use slotmap_proved::fallible::DenseSlotMap;
+    /// # fn main() -> Result<(), Box<dyn std::error::Error>> {
+    /// # let alloc = Global;
+    /// # let mut map: DenseSlotMap<DefaultKey, u64> = DenseSlotMap::new(alloc)?;
+    /// # let a = map.insert(1)?;
+    /// # let b = map.insert(2)?;
     /// assert_eq!(map.remove(a), Some(1));
     /// assert_eq!(map.remove(a), None);
     /// assert_eq!(map.get(b), Some(&2));
+    /// # Ok(())
+    /// # }
     /// ```
     ///
     /// # Proved
@@ -51,6 +60,8 @@ impl<K: Key, V> DenseSlotMap<K, V> {
     /// ensures unchanged { IfNone result (self.new ≡ self.old) }
     /// ensures valid { StaysDense self.old self.new }
     /// ```
+    ///
+    /// Words: [`ClosesGap`](crate::words#closesgap), [`content`](crate::words#content-of-slotmap_dense-dense), [`live`](crate::words#live), [`Removes`](crate::words#removes), [`StaysDense`](crate::words#staysdense).
     #[inline(always)]
     pub fn remove(&mut self, key: K) -> Option<V> {
         let position = self.slots.remove(key.data())?;

@@ -24,7 +24,12 @@ impl<K: Key, E, T: Tables<K>> World<K, E, T> {
     /// Returns the components of two kinds of an entity, or `None` if it lacks one of them or doesn't
     /// exist. It takes constant time.
     ///
-    /// ```ignore
+    /// ```
+    /// # use slotmap_proved::{DefaultKey, Global, Key};
+    /// # use slotmap_proved::entities::{Apart, CloneKind, CloneTable, CloneTables, First, Kind, Second, Table, Tables, World};
+    /// # use slotmap_proved::fallible::SecondaryMap;
+    /// # fn main() -> Result<(), Box<dyn std::error::Error>> {
+    /// # let alloc = Global;
     /// let mut world: World<DefaultKey, u8, (SecondaryMap<DefaultKey, u32>, (SecondaryMap<DefaultKey, bool>, ()))> =
     ///     World::new(alloc)?;
     /// let hero = world.spawn(1)?;
@@ -32,14 +37,19 @@ impl<K: Key, E, T: Tables<K>> World<K, E, T> {
     /// assert_eq!(world.both::<First, Second>(hero), None);
     /// world.attach::<Second>(hero, true)?;
     /// assert_eq!(world.both::<First, Second>(hero), Some((&7, &true)));
+    /// # Ok(())
+    /// # }
     /// ```
     ///
     /// # Proved
     ///
     /// ```text
-    /// ensures value { option_map (λ both. (both.0.now, both.1.now)) result ≡ both_of (get (A.Table.pairs (A.table self.now.tables)) (K.data_of key)) (get (B.Table.pairs (B.table self.now.tables)) (K.data_of key)) }
+    /// ensures value { option_map (λ both. (both.0.now, both.1.now)) result
+    ///     ≡ both_of (get (A.Table.pairs (A.table self.now.tables)) (K.data_of key)) (get (B.Table.pairs (B.table self.now.tables)) (K.data_of key)) }
     /// ensures live { IsSome result → IsLive self.now.entities.content (K.data_of key) }
     /// ```
+    ///
+    /// Words: [`both_of`](crate::words#both_of), [`content`](crate::words#content-of-slotmap_dense-dense), [`entities`](crate::words#entities), [`get`](crate::words#get), [`IsLive`](crate::words#islive), [`pairs`](crate::words#pairs-of-slotmap_secondary-content), [`tables`](crate::words#tables).
     #[inline]
     pub fn both<'a, A: Kind<K, T>, B: Kind<K, T>>(
         &'a self,
@@ -60,7 +70,12 @@ impl<K: Key, E, T: Tables<K>> World<K, E, T> {
     /// unchanged. It takes constant time. Each table has room for as many components as before. With one
     /// kind twice the call doesn't compile (see [`Apart`]).
     ///
-    /// ```ignore
+    /// ```
+    /// # use slotmap_proved::{DefaultKey, Global, Key};
+    /// # use slotmap_proved::entities::{Apart, CloneKind, CloneTable, CloneTables, First, Kind, Second, Table, Tables, World};
+    /// # use slotmap_proved::fallible::SecondaryMap;
+    /// # fn main() -> Result<(), Box<dyn std::error::Error>> {
+    /// # let alloc = Global;
     /// let mut world: World<DefaultKey, u8, (SecondaryMap<DefaultKey, u32>, (SecondaryMap<DefaultKey, bool>, ()))> =
     ///     World::new(alloc)?;
     /// let hero = world.spawn_with::<First>(1, 7)?;
@@ -68,28 +83,8 @@ impl<K: Key, E, T: Tables<K>> World<K, E, T> {
     /// world.attach::<Second>(hero, true)?;
     /// assert_eq!(world.replace_both::<First, Second>(hero, 8, false), Ok((7, true)));
     /// assert_eq!(world.both::<First, Second>(hero), Some((&8, &false)));
-    /// ```
-    ///
-    /// # Proved
-    ///
-    /// ```text
-    /// // The entity had these, and has the given ones now.
-    /// ensures value { IfOk result (λ before. both_of (get (A.Table.pairs (A.table self.old.tables)) (K.data_of key)) (get (B.Table.pairs (B.table self.old.tables)) (K.data_of key)) ≡ Some before) }
-    /// ensures first { OnOk result (Gains (A.Table.pairs (A.table self.old.tables)) (K.data_of key) first (A.Table.pairs (A.table self.new.tables))) }
-    /// ensures second { OnOk result (Gains (B.Table.pairs (B.table self.old.tables)) (K.data_of key) second (B.Table.pairs (B.table self.new.tables))) }
-    /// ensures live { OnOk result (IsLive self.old.entities.content (K.data_of key)) }
-    /// // No room is lost, and none is made.
-    /// ensures first_room { (i count : ℕ) → A.Table.fits (A.table self.old.tables) i count → A.Table.fits (A.table self.new.tables) i count }
-    /// ensures second_room { (i count : ℕ) → B.Table.fits (B.table self.old.tables) i count → B.Table.fits (B.table self.new.tables) i count }
-    /// ensures no_more_first_room { (i count : ℕ) → A.Table.fits (A.table self.new.tables) i count → A.Table.fits (A.table self.old.tables) i count }
-    /// ensures no_more_second_room { (i count : ℕ) → B.Table.fits (B.table self.new.tables) i count → B.Table.fits (B.table self.old.tables) i count }
-    /// // It fails if the entity lacks one of them, which changes nothing.
-    /// ensures lacks { OnErr result (both_of (get (A.Table.pairs (A.table self.old.tables)) (K.data_of key)) (get (B.Table.pairs (B.table self.old.tables)) (K.data_of key)) ≡ None) }
-    /// ensures returned { IfErr result (λ back. back ≡ (first, second)) }
-    /// ensures unchanged { OnErr result (self.new ≡ self.old) }
-    /// // All else is as before: the other kinds, and the entities.
-    /// ensures kinds { self.new.tables ≡ B.with_table (A.with_table self.old.tables (A.table self.new.tables)) (B.table self.new.tables) }
-    /// ensures entities { self.new.entities ≡ self.old.entities }
+    /// # Ok(())
+    /// # }
     /// ```
     #[inline]
     pub fn replace_both<A: Apart<K, T, B>, B: Kind<K, T>>(

@@ -17,12 +17,19 @@ pub trait CloneTable<K: Key>: Table<K> {
     /// Returns a copy of the table: the same entities, each with a clone of its component. It fails only
     /// if memory runs out, or if the clone of a component fails.
     ///
-    /// ```ignore
+    /// ```
+    /// # use slotmap_proved::{DefaultKey, Global, Key, KeyData};
+    /// # use slotmap_proved::entities::{Apart, CloneKind, CloneTable, CloneTables, Kind, Table, Tables};
+    /// # use slotmap_proved::fallible::SparseSecondaryMap;
+    /// # fn main() -> Result<(), Box<dyn std::error::Error>> {
+    /// # let alloc = Global;
     /// let hero = DefaultKey::from(KeyData::new(1, 1));
     /// let mut table: SparseSecondaryMap<DefaultKey, u32> = Table::new(alloc)?;
     /// Table::insert(&mut table, hero, 7)?;
     /// let copy = CloneTable::clone_table(&table)?;
     /// assert_eq!(Table::get(&copy, hero), Some(&7));
+    /// # Ok(())
+    /// # }
     /// ```
     ///
     /// # Proved
@@ -30,6 +37,8 @@ pub trait CloneTable<K: Key>: Table<K> {
     /// ```text
     /// ensures { IfOk result (λ copy. HasClones is_clone (Self.Table.pairs self.now) (Self.Table.pairs copy)) }
     /// ```
+    ///
+    /// Words: [`HasClones`](crate::words#hasclones), [`pairs`](crate::words#pairs-of-slotmap_secondary-content).
     fn clone_table(&self) -> Result<Self, AllocError>;
 }
 
@@ -58,12 +67,19 @@ pub trait CloneTables<K: Key>: Tables<K> {
     /// Returns a copy of the tables: each entity has clones of its components. It fails only if memory
     /// runs out, or if the clone of a component fails.
     ///
-    /// ```ignore
+    /// ```
+    /// # use slotmap_proved::{DefaultKey, Global, Key, KeyData};
+    /// # use slotmap_proved::entities::{Apart, CloneKind, CloneTable, CloneTables, Kind, Table, Tables};
+    /// # use slotmap_proved::fallible::SecondaryMap;
+    /// # fn main() -> Result<(), Box<dyn std::error::Error>> {
+    /// # let alloc = Global;
     /// let hero = DefaultKey::from(KeyData::new(1, 1));
     /// let mut tables: (SecondaryMap<DefaultKey, u32>, ()) = Tables::new(alloc)?;
     /// tables.0.insert(hero, 7)?;
     /// let copy = CloneTables::clone_tables(&tables)?;
     /// assert_eq!(copy.0.get(hero), Some(&7));
+    /// # Ok(())
+    /// # }
     /// ```
     ///
     /// # Proved
@@ -72,6 +88,8 @@ pub trait CloneTables<K: Key>: Tables<K> {
     /// ensures clones { IfOk result (are_clones self.now) }
     /// ensures same { IfOk result (λ copy. (q : KeyOf) → Self.Tables.has copy q ≡ Self.Tables.has self.now q) }
     /// ```
+    ///
+    /// Words: [`Key`](crate::words#key).
     fn clone_tables(&self) -> Result<Self, AllocError>;
 
     // Where clones equal their components, each entity has the same in a copy.
@@ -95,12 +113,19 @@ impl<K: Key, A: CloneTable<K>, B: CloneTables<K>> CloneTables<K> for (A, B) {
 
 /// A kind of components that can be cloned: what a copy of the tables has of it.
 ///
-/// ```ignore
+/// ```
+/// # use slotmap_proved::{DefaultKey, Global, Key};
+/// # use slotmap_proved::entities::{Apart, CloneKind, CloneTable, CloneTables, First, Kind, Table, World};
+/// # use slotmap_proved::fallible::SecondaryMap;
+/// # fn main() -> Result<(), Box<dyn std::error::Error>> {
+/// # let alloc = Global;
 /// type Tables = (SecondaryMap<DefaultKey, u32>, ());
 /// let mut world: World<DefaultKey, u8, Tables> = World::new(alloc)?;
 /// let hero = world.spawn_with::<First>(1, 7)?;
 /// let copy = world.clone()?;
 /// assert_eq!(copy.component::<First>(hero), Some(&7));
+/// # Ok(())
+/// # }
 /// ```
 ///
 /// This trait is sealed: only types of this crate implement it.
@@ -128,13 +153,20 @@ impl<K: Key, E: Clone, T: CloneTables<K>> World<K, E, T> {
     /// the clone of a value or of a component fails, the call fails, and what was copied is dropped. It
     /// takes time linear in the number of slots and in the size of the tables.
     ///
-    /// ```ignore
+    /// ```
+    /// # use slotmap_proved::{DefaultKey, Global, Key};
+    /// # use slotmap_proved::entities::{Apart, CloneKind, CloneTable, CloneTables, First, Kind, Table, Tables, World};
+    /// # use slotmap_proved::fallible::SecondaryMap;
+    /// # fn main() -> Result<(), Box<dyn std::error::Error>> {
+    /// # let alloc = Global;
     /// let mut world: World<DefaultKey, u8, (SecondaryMap<DefaultKey, u32>, ())> = World::new(alloc)?;
     /// let hero = world.spawn(1)?;
     /// world.attach::<First>(hero, 7)?;
     /// let copy = world.clone()?;
     /// world.despawn(hero);
     /// assert_eq!(copy.component::<First>(hero), Some(&7));
+    /// # Ok(())
+    /// # }
     /// ```
     ///
     /// # Proved
@@ -144,11 +176,14 @@ impl<K: Key, E: Clone, T: CloneTables<K>> World<K, E, T> {
     /// ensures order { IfOk result (λ copy. ClonesInOrder E.is_clone self.now.entities copy.entities) }
     /// ensures tables { IfOk result (λ copy. T.are_clones self.now.tables copy.tables) }
     /// ensures same { IfOk result (λ copy. (q : KeyOf) → T.Tables.has copy.tables q ≡ T.Tables.has self.now.tables q) }
+    ///
     /// // Where clones equal their values and their components.
     /// ensures copies_if_clones_equal { IfOk result (λ copy. ClonesEqual E.is_clone → IsCopy self.now.entities.content copy.entities.content) }
     /// ensures order_if_clones_equal { IfOk result (λ copy. ClonesEqual E.is_clone → SameOrder self.now.entities copy.entities) }
     /// ensures same_if_clones_equal { IfOk result (λ copy. T.clones_equal → (q : KeyOf) → T.Tables.parts copy.tables q ≡ T.Tables.parts self.now.tables q) }
     /// ```
+    ///
+    /// Words: [`ClonesEqual`](crate::words#clonesequal), [`ClonesInOrder`](crate::words#clonesinorder), [`content`](crate::words#content-of-slotmap_dense-dense), [`entities`](crate::words#entities), [`IsCloneBy`](crate::words#iscloneby), [`IsCopy`](crate::words#iscopy), [`Key`](crate::words#key), [`SameOrder`](crate::words#sameorder), [`tables`](crate::words#tables).
     #[inline]
     pub fn clone(&self) -> Result<Self, AllocError> {
         let entities = self.entities.clone()?;

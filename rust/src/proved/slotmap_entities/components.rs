@@ -43,33 +43,18 @@ impl<K: Key, E, T: Tables<K>> World<K, E, T> {
     /// component already, nor where there is room, as after [`World::reserve_components`]. A call that fails
     /// or replaces a component takes up no room. Constant time, unless the table grows or is built anew.
     ///
-    /// ```ignore
+    /// ```
+    /// # use slotmap_proved::{DefaultKey, Global, Key};
+    /// # use slotmap_proved::entities::{Apart, CloneKind, CloneTable, CloneTables, First, Kind, Table, Tables, World};
+    /// # use slotmap_proved::fallible::SecondaryMap;
+    /// # fn main() -> Result<(), Box<dyn std::error::Error>> {
+    /// # let alloc = Global;
     /// let mut world: World<DefaultKey, u8, (SecondaryMap<DefaultKey, u32>, ())> = World::new(alloc)?;
     /// let hero = world.spawn(1)?;
     /// assert!(matches!(world.attach::<First>(hero, 7), Ok(None)));
     /// assert!(matches!(world.attach::<First>(hero, 8), Ok(Some(7))));
-    /// ```
-    ///
-    /// # Proved
-    ///
-    /// ```text
-    /// // The entity has this component now.
-    /// ensures before { IfOk result (λ before. before ≡ get (C.Table.pairs (C.table self.old.tables)) (K.data_of key)) }
-    /// ensures there { OnOk result (get (C.Table.pairs (C.table self.new.tables)) (K.data_of key) ≡ Some component) }
-    /// ensures live { OnOk result (IsLive self.old.entities.content (K.data_of key)) }
-    /// // If there is room in the table, it can't fail. It takes up room for one component at most.
-    /// ensures room { IsLive self.old.entities.content (K.data_of key) → C.Table.fits (C.table self.old.tables) (K.data_of key).index 1 → IsOk result }
-    /// ensures less_room { (i count : ℕ) → C.Table.fits (C.table self.old.tables) i (count + 1) → C.Table.fits (C.table self.new.tables) i count }
-    /// // A call that fails takes up none, and neither does one that replaces a component.
-    /// ensures refused_room { OnErr result ((i count : ℕ) → C.Table.fits (C.table self.old.tables) i count → C.Table.fits (C.table self.new.tables) i count) }
-    /// ensures replaced_room { contains_key (C.Table.pairs (C.table self.old.tables)) (K.data_of key) ≡ true → (i count : ℕ) → C.Table.fits (C.table self.old.tables) i count → C.Table.fits (C.table self.new.tables) i count }
-    /// // Why the call failed, and what that leaves.
-    /// ensures err { IfErr result (RefusesAttach self.old.entities.content (C.Table.pairs (C.table self.old.tables)) (K.data_of key) component) }
-    /// ensures unchanged { OnErr result (C.Table.pairs (C.table self.new.tables) ≡ C.Table.pairs (C.table self.old.tables)) }
-    /// // All else is as before: the other components of this kind, and the other kinds.
-    /// ensures others { (q : KeyOf) → q ≢ K.data_of key → get (C.Table.pairs (C.table self.new.tables)) q ≡ get (C.Table.pairs (C.table self.old.tables)) q }
-    /// ensures kinds { self.new.tables ≡ C.with_table self.old.tables (C.table self.new.tables) }
-    /// ensures entities { self.new.entities ≡ self.old.entities }
+    /// # Ok(())
+    /// # }
     /// ```
     #[inline]
     pub fn attach<C: Kind<K, T>>(
@@ -91,26 +76,19 @@ impl<K: Key, E, T: Tables<K>> World<K, E, T> {
     /// the same components then. Where there is room already, nothing changes, and only a number that
     /// is too great is refused. Where there isn't, it takes time linear in the size of the table.
     ///
-    /// ```ignore
+    /// ```
+    /// # use slotmap_proved::{DefaultKey, Global, Key};
+    /// # use slotmap_proved::entities::{Apart, CloneKind, CloneTable, CloneTables, First, Kind, Table, Tables, World};
+    /// # use slotmap_proved::fallible::SecondaryMap;
+    /// # fn main() -> Result<(), Box<dyn std::error::Error>> {
+    /// # let alloc = Global;
     /// let mut world: World<DefaultKey, u8, (SecondaryMap<DefaultKey, u32>, ())> = World::new(alloc)?;
     /// world.reserve(2)?;
     /// world.reserve_components::<First>(2, 2)?;
     /// let hero = world.spawn(1)?;
     /// assert!(world.attach::<First>(hero, 7).is_ok());
-    /// ```
-    ///
-    /// # Proved
-    ///
-    /// ```text
-    /// ensures ok { OnOk result (C.Table.fits (C.table self.new.tables) last additional) }
-    /// ensures err { IfErr result (C.Table.refuses_room (C.table self.old.tables) last additional) }
-    /// // If there is room already, nothing changes, and only a number that is too great is refused.
-    /// ensures succeeds { C.Table.fits (C.table self.old.tables) last additional → (C.Table.refuses_room (C.table self.old.tables) last additional ReserveError.TooGreat → ⊥) → IsOk result }
-    /// ensures had_room { C.Table.fits (C.table self.old.tables) last additional → self.new ≡ self.old }
-    /// ensures same { C.Table.pairs (C.table self.new.tables) ≡ C.Table.pairs (C.table self.old.tables) }
-    /// ensures room { (i count : ℕ) → C.Table.fits (C.table self.old.tables) i count → C.Table.fits (C.table self.new.tables) i count }
-    /// ensures kinds { self.new.tables ≡ C.with_table self.old.tables (C.table self.new.tables) }
-    /// ensures entities { self.new.entities ≡ self.old.entities }
+    /// # Ok(())
+    /// # }
     /// ```
     #[inline]
     pub fn reserve_components<C: Kind<K, T>>(
@@ -124,11 +102,18 @@ impl<K: Key, E, T: Tables<K>> World<K, E, T> {
     /// Takes a component off an entity, and returns it, or `None` if it has none of this kind or doesn't
     /// exist. No room is lost, and the capacity of a `SecondaryMap` stays.
     ///
-    /// ```ignore
+    /// ```
+    /// # use slotmap_proved::{DefaultKey, Global, Key};
+    /// # use slotmap_proved::entities::{Apart, CloneKind, CloneTable, CloneTables, First, Kind, Table, Tables, World};
+    /// # use slotmap_proved::fallible::SecondaryMap;
+    /// # fn main() -> Result<(), Box<dyn std::error::Error>> {
+    /// # let alloc = Global;
     /// let mut world: World<DefaultKey, u8, (SecondaryMap<DefaultKey, u32>, ())> = World::new(alloc)?;
     /// let hero = world.spawn(1)?;
     /// world.attach::<First>(hero, 7)?;
     /// assert_eq!(world.detach::<First>(hero), Some(7));
+    /// # Ok(())
+    /// # }
     /// ```
     ///
     /// # Proved
@@ -143,6 +128,8 @@ impl<K: Key, E, T: Tables<K>> World<K, E, T> {
     /// ensures kinds { self.new.tables ≡ C.with_table self.old.tables (C.table self.new.tables) }
     /// ensures entities { self.new.entities ≡ self.old.entities }
     /// ```
+    ///
+    /// Words: [`content`](crate::words#content-of-slotmap_dense-dense), [`entities`](crate::words#entities), [`get`](crate::words#get), [`IsLive`](crate::words#islive), [`Key`](crate::words#key), [`pairs`](crate::words#pairs-of-slotmap_secondary-content), [`tables`](crate::words#tables).
     #[inline]
     pub fn detach<C: Kind<K, T>>(&mut self, key: K) -> Option<ComponentOf<K, T, C>> {
         C::table_mut(&mut self.tables).remove(key)
@@ -150,10 +137,17 @@ impl<K: Key, E, T: Tables<K>> World<K, E, T> {
 
     /// Returns whether an entity has a component of this kind. One that doesn't exist has none.
     ///
-    /// ```ignore
+    /// ```
+    /// # use slotmap_proved::{DefaultKey, Global, Key};
+    /// # use slotmap_proved::entities::{Apart, CloneKind, CloneTable, CloneTables, First, Kind, Table, Tables, World};
+    /// # use slotmap_proved::fallible::SecondaryMap;
+    /// # fn main() -> Result<(), Box<dyn std::error::Error>> {
+    /// # let alloc = Global;
     /// let mut world: World<DefaultKey, u8, (SecondaryMap<DefaultKey, u32>, ())> = World::new(alloc)?;
     /// let hero = world.spawn(1)?;
     /// assert!(!world.has::<First>(hero));
+    /// # Ok(())
+    /// # }
     /// ```
     ///
     /// # Proved
@@ -162,6 +156,8 @@ impl<K: Key, E, T: Tables<K>> World<K, E, T> {
     /// ensures value { result ≡ contains_key (C.Table.pairs (C.table self.now.tables)) (K.data_of key) }
     /// ensures live { IsTrue result → IsLive self.now.entities.content (K.data_of key) }
     /// ```
+    ///
+    /// Words: [`contains_key`](crate::words#contains_key), [`content`](crate::words#content-of-slotmap_dense-dense), [`entities`](crate::words#entities), [`IsLive`](crate::words#islive), [`pairs`](crate::words#pairs-of-slotmap_secondary-content), [`tables`](crate::words#tables).
     #[inline]
     pub fn has<C: Kind<K, T>>(&self, key: K) -> bool {
         C::table(&self.tables).contains_key(key)
@@ -169,11 +165,18 @@ impl<K: Key, E, T: Tables<K>> World<K, E, T> {
 
     /// Returns the component of this kind of an entity, or `None` if it has none or doesn't exist.
     ///
-    /// ```ignore
+    /// ```
+    /// # use slotmap_proved::{DefaultKey, Global, Key};
+    /// # use slotmap_proved::entities::{Apart, CloneKind, CloneTable, CloneTables, First, Kind, Table, Tables, World};
+    /// # use slotmap_proved::fallible::SecondaryMap;
+    /// # fn main() -> Result<(), Box<dyn std::error::Error>> {
+    /// # let alloc = Global;
     /// let mut world: World<DefaultKey, u8, (SecondaryMap<DefaultKey, u32>, ())> = World::new(alloc)?;
     /// let hero = world.spawn(1)?;
     /// world.attach::<First>(hero, 7)?;
     /// assert_eq!(world.component::<First>(hero), Some(&7));
+    /// # Ok(())
+    /// # }
     /// ```
     ///
     /// # Proved
@@ -182,6 +185,8 @@ impl<K: Key, E, T: Tables<K>> World<K, E, T> {
     /// ensures value { option_copied result ≡ get (C.Table.pairs (C.table self.now.tables)) (K.data_of key) }
     /// ensures live { IsSome result → IsLive self.now.entities.content (K.data_of key) }
     /// ```
+    ///
+    /// Words: [`content`](crate::words#content-of-slotmap_dense-dense), [`entities`](crate::words#entities), [`get`](crate::words#get), [`IsLive`](crate::words#islive), [`pairs`](crate::words#pairs-of-slotmap_secondary-content), [`tables`](crate::words#tables).
     #[inline]
     pub fn component<'a, C: Kind<K, T>>(&'a self, key: K) -> Option<&'a ComponentOf<K, T, C>>
     where
@@ -196,7 +201,12 @@ impl<K: Key, E, T: Tables<K>> World<K, E, T> {
     /// Once the reference ends, the entity has the last component written through it, and all else is as
     /// before.
     ///
-    /// ```ignore
+    /// ```
+    /// # use slotmap_proved::{DefaultKey, Global, Key};
+    /// # use slotmap_proved::entities::{Apart, CloneKind, CloneTable, CloneTables, First, Kind, Table, Tables, World};
+    /// # use slotmap_proved::fallible::SecondaryMap;
+    /// # fn main() -> Result<(), Box<dyn std::error::Error>> {
+    /// # let alloc = Global;
     /// let mut world: World<DefaultKey, u8, (SecondaryMap<DefaultKey, u32>, ())> = World::new(alloc)?;
     /// let hero = world.spawn(1)?;
     /// world.attach::<First>(hero, 7)?;
@@ -204,15 +214,20 @@ impl<K: Key, E, T: Tables<K>> World<K, E, T> {
     ///     *component = 8;
     /// }
     /// assert_eq!(world.component::<First>(hero), Some(&8));
+    /// # Ok(())
+    /// # }
     /// ```
     ///
     /// # Proved
     ///
     /// ```text
-    /// ensures* writes_back { sem 𝓛 (lends_component K.row E.row T.row T.Parts.row K.Key T.Tables C.Table.Component.row self.entry (λ component. C.with_table self.old.tables (C.Table.with_value (C.table self.old.tables) (K.data_of key) component)) result) }
+    /// ensures* writes_back { sem 𝓛 (lends_component K.row E.row T.row T.Parts.row K.Key T.Tables C.Table.Component.row self.entry
+    ///     (λ component. C.with_table self.old.tables (C.Table.with_value (C.table self.old.tables) (K.data_of key) component)) result) }
     /// ensures value { option_copied_mut result ≡ get (C.Table.pairs (C.table self.old.tables)) (K.data_of key) }
     /// ensures live { IsSome result → IsLive self.old.entities.content (K.data_of key) }
     /// ```
+    ///
+    /// Words: [`content`](crate::words#content-of-slotmap_dense-dense), [`entities`](crate::words#entities), [`get`](crate::words#get), [`IsLive`](crate::words#islive), [`lends_component`](crate::words#lends_component), [`pairs`](crate::words#pairs-of-slotmap_secondary-content), [`tables`](crate::words#tables).
     #[inline]
     pub fn component_mut<'a, C: Kind<K, T>>(
         &'a mut self,
@@ -234,7 +249,12 @@ impl<K: Key, E, T: Tables<K>> World<K, E, T> {
     /// components come in some order. No room is lost, and the capacity of a `SecondaryMap` stays. It takes
     /// time linear in the size of the table.
     ///
-    /// ```ignore
+    /// ```
+    /// # use slotmap_proved::{DefaultKey, Global, Key};
+    /// # use slotmap_proved::entities::{Apart, CloneKind, CloneTable, CloneTables, First, Kind, Table, Tables, World};
+    /// # use slotmap_proved::fallible::SecondaryMap;
+    /// # fn main() -> Result<(), Box<dyn std::error::Error>> {
+    /// # let alloc = Global;
     /// let mut world: World<DefaultKey, u8, (SecondaryMap<DefaultKey, u32>, ())> = World::new(alloc)?;
     /// let hero = world.spawn(1)?;
     /// world.attach::<First>(hero, 7)?;
@@ -243,6 +263,8 @@ impl<K: Key, E, T: Tables<K>> World<K, E, T> {
     ///     true
     /// });
     /// assert_eq!(world.component::<First>(hero), Some(&14));
+    /// # Ok(())
+    /// # }
     /// ```
     ///
     /// # Proved
@@ -255,6 +277,8 @@ impl<K: Key, E, T: Tables<K>> World<K, E, T> {
     /// ensures kinds { self.new.tables ≡ C.with_table self.old.tables (C.table self.new.tables) }
     /// ensures entities { self.new.entities ≡ self.old.entities }
     /// ```
+    ///
+    /// Words: [`CallableOnEach`](crate::words#callableoneach), [`entities`](crate::words#entities), [`keyed`](crate::words#keyed), [`pairs`](crate::words#pairs-of-slotmap_secondary-content), [`RetainsBy`](crate::words#retainsby), [`tables`](crate::words#tables).
     #[inline]
     pub fn retain_components<C: Kind<K, T>, F: FnMut(K, &mut ComponentOf<K, T, C>) -> bool>(
         &mut self,

@@ -11,12 +11,18 @@ use crate::proved::slotmap::dense::{Iter, Keys, Values};
 impl<K: Key, E, T: Tables<K>> World<K, E, T> {
     /// Returns an iterator over the entities with their values, in packed order.
     ///
-    /// ```ignore
+    /// ```
+    /// # use slotmap_proved::{DefaultKey, entities, Global, Key};
+    /// # use slotmap_proved::entities::{Apart, CloneKind, CloneTable, CloneTables, Kind, Table, Tables, World};
+    /// # fn main() -> Result<(), Box<dyn std::error::Error>> {
+    /// # let alloc = Global;
     /// let mut world: World<DefaultKey, u8, ()> = World::new(alloc)?;
     /// let hero = world.spawn(1)?;
     /// let mut entities = world.iter();
     /// assert_eq!(entities.next(), Some((hero, &1)));
     /// assert_eq!(entities.next(), None);
+    /// # Ok(())
+    /// # }
     /// ```
     ///
     /// # Proved
@@ -26,6 +32,8 @@ impl<K: Key, E, T: Tables<K>> World<K, E, T> {
     /// ensures in_order { result ≡ zip self.now.entities.keys self.now.entities.values }
     /// ensures valid { IsDense self.now.entities }
     /// ```
+    ///
+    /// Words: [`content`](crate::words#content-of-slotmap_dense-dense), [`entities`](crate::words#entities), [`IsDense`](crate::words#isdense), [`IsListing`](crate::words#islisting), [`keys`](crate::words#keys-of-slotmap_core-joined), [`live`](crate::words#live), [`values`](crate::words#values).
     #[inline]
     pub fn iter(&self) -> Iter<'_, K, E> {
         self.entities.iter()
@@ -36,7 +44,12 @@ impl<K: Key, E, T: Tables<K>> World<K, E, T> {
     /// A loop over the positions may change the world on its way, and needs no vector of keys. An iterator,
     /// as [`World::keys`] or a join, borrows the world as long as it is used.
     ///
-    /// ```ignore
+    /// ```
+    /// # use slotmap_proved::{DefaultKey, Global, Key};
+    /// # use slotmap_proved::entities::{Apart, CloneKind, CloneTable, CloneTables, First, Kind, Table, Tables, World};
+    /// # use slotmap_proved::fallible::SecondaryMap;
+    /// # fn main() -> Result<(), Box<dyn std::error::Error>> {
+    /// # let alloc = Global;
     /// let mut world: World<DefaultKey, u8, (SecondaryMap<DefaultKey, u32>, ())> = World::new(alloc)?;
     /// let hero = world.spawn_with::<First>(1, 7)?;
     /// for at in 0..world.len() {
@@ -46,6 +59,8 @@ impl<K: Key, E, T: Tables<K>> World<K, E, T> {
     ///     }
     /// }
     /// assert_eq!(world.component::<First>(hero), Some(&8));
+    /// # Ok(())
+    /// # }
     /// ```
     ///
     /// # Proved
@@ -56,6 +71,8 @@ impl<K: Key, E, T: Tables<K>> World<K, E, T> {
     /// // So each entity is there once.
     /// ensures valid { IsDense self.now.entities }
     /// ```
+    ///
+    /// Words: [`content`](crate::words#content-of-slotmap_dense-dense), [`entities`](crate::words#entities), [`IsDense`](crate::words#isdense), [`keys`](crate::words#keys-of-slotmap_core-joined), [`live`](crate::words#live).
     #[inline]
     pub fn keys_as_slice(&self) -> &[K] {
         self.entities.keys_as_slice()
@@ -63,10 +80,16 @@ impl<K: Key, E, T: Tables<K>> World<K, E, T> {
 
     /// Returns an iterator over the keys of the entities, in packed order.
     ///
-    /// ```ignore
+    /// ```
+    /// # use slotmap_proved::{DefaultKey, Global, Key};
+    /// # use slotmap_proved::entities::{Apart, CloneKind, CloneTable, CloneTables, Kind, Table, Tables, World};
+    /// # fn main() -> Result<(), Box<dyn std::error::Error>> {
+    /// # let alloc = Global;
     /// let mut world: World<DefaultKey, u8, ()> = World::new(alloc)?;
     /// let hero = world.spawn(1)?;
     /// assert_eq!(world.keys().next(), Some(hero));
+    /// # Ok(())
+    /// # }
     /// ```
     ///
     /// # Proved
@@ -76,6 +99,8 @@ impl<K: Key, E, T: Tables<K>> World<K, E, T> {
     /// ensures in_order { result ≡ self.now.entities.keys }
     /// ensures valid { IsDense self.now.entities }
     /// ```
+    ///
+    /// Words: [`content`](crate::words#content-of-slotmap_dense-dense), [`entities`](crate::words#entities), [`IsDense`](crate::words#isdense), [`IsKeyListing`](crate::words#iskeylisting), [`keys`](crate::words#keys-of-slotmap_core-joined), [`live`](crate::words#live).
     #[inline]
     pub fn keys(&self) -> Keys<'_, K, E> {
         self.entities.keys()
@@ -83,10 +108,16 @@ impl<K: Key, E, T: Tables<K>> World<K, E, T> {
 
     /// Returns an iterator over the values of the entities, in packed order.
     ///
-    /// ```ignore
+    /// ```
+    /// # use slotmap_proved::{DefaultKey, Global, Key};
+    /// # use slotmap_proved::entities::{Apart, CloneKind, CloneTable, CloneTables, Kind, Table, Tables, World};
+    /// # fn main() -> Result<(), Box<dyn std::error::Error>> {
+    /// # let alloc = Global;
     /// let mut world: World<DefaultKey, u8, ()> = World::new(alloc)?;
     /// world.spawn(1)?;
     /// assert_eq!(world.values().next(), Some(&1));
+    /// # Ok(())
+    /// # }
     /// ```
     ///
     /// # Proved
@@ -96,6 +127,8 @@ impl<K: Key, E, T: Tables<K>> World<K, E, T> {
     /// ensures in_order { result ≡ self.now.entities.values }
     /// ensures valid { IsDense self.now.entities }
     /// ```
+    ///
+    /// Words: [`content`](crate::words#content-of-slotmap_dense-dense), [`entities`](crate::words#entities), [`IsDense`](crate::words#isdense), [`IsValueListing`](crate::words#isvaluelisting), [`live`](crate::words#live), [`values`](crate::words#values).
     #[inline]
     pub fn values(&self) -> Values<'_, K, E> {
         self.entities.values()

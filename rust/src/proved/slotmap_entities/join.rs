@@ -91,7 +91,12 @@ impl<K: Key, E, T: Tables<K>> World<K, E, T> {
     /// It is made in constant time. All its steps together look each entity up once, and allocate
     /// nothing.
     ///
-    /// ```ignore
+    /// ```
+    /// # use slotmap_proved::{DefaultKey, Global, Key};
+    /// # use slotmap_proved::entities::{Apart, CloneKind, CloneTable, CloneTables, First, Kind, Table, Tables, World};
+    /// # use slotmap_proved::fallible::SecondaryMap;
+    /// # fn main() -> Result<(), Box<dyn std::error::Error>> {
+    /// # let alloc = Global;
     /// let mut world: World<DefaultKey, u8, (SecondaryMap<DefaultKey, u32>, ())> = World::new(alloc)?;
     /// let hero = world.spawn(1)?;
     /// world.spawn(2)?;
@@ -99,6 +104,8 @@ impl<K: Key, E, T: Tables<K>> World<K, E, T> {
     /// let mut found = world.with::<First>();
     /// assert_eq!(found.next(), Some((hero, &7)));
     /// assert_eq!(found.next(), None);
+    /// # Ok(())
+    /// # }
     /// ```
     ///
     /// # Proved
@@ -108,6 +115,8 @@ impl<K: Key, E, T: Tables<K>> World<K, E, T> {
     /// // So each of them is an entity, and is there once.
     /// ensures valid { IsDense self.now.entities }
     /// ```
+    ///
+    /// Words: [`entities`](crate::words#entities), [`found_by`](crate::words#found_by), [`get`](crate::words#get), [`IsDense`](crate::words#isdense), [`keys`](crate::words#keys-of-slotmap_core-joined), [`pairs`](crate::words#pairs-of-slotmap_secondary-content), [`tables`](crate::words#tables).
     #[inline]
     pub fn with<'a, C: Kind<K, T>>(&'a self) -> With<'a, K, E, C::Table>
     where
@@ -125,7 +134,12 @@ impl<K: Key, E, T: Tables<K>> World<K, E, T> {
     /// It is made in constant time. All its steps together look each entity up once in the two
     /// tables, and allocate nothing.
     ///
-    /// ```ignore
+    /// ```
+    /// # use slotmap_proved::{DefaultKey, Global, Key};
+    /// # use slotmap_proved::entities::{Apart, CloneKind, CloneTable, CloneTables, First, Kind, Second, Table, World};
+    /// # use slotmap_proved::fallible::{SecondaryMap, SparseSecondaryMap};
+    /// # fn main() -> Result<(), Box<dyn std::error::Error>> {
+    /// # let alloc = Global;
     /// type Tables = (
     ///     SecondaryMap<DefaultKey, u32>,
     ///     (SparseSecondaryMap<DefaultKey, u64>, ()),
@@ -135,6 +149,8 @@ impl<K: Key, E, T: Tables<K>> World<K, E, T> {
     /// world.attach::<First>(hero, 7)?;
     /// world.attach::<Second>(hero, 8)?;
     /// assert_eq!(world.with_both::<First, Second>().next(), Some((hero, &7, &8)));
+    /// # Ok(())
+    /// # }
     /// ```
     ///
     /// # Proved
@@ -144,6 +160,8 @@ impl<K: Key, E, T: Tables<K>> World<K, E, T> {
     /// // So each of them is an entity, and is there once.
     /// ensures valid { IsDense self.now.entities }
     /// ```
+    ///
+    /// Words: [`both_found_by`](crate::words#both_found_by), [`entities`](crate::words#entities), [`get`](crate::words#get), [`IsDense`](crate::words#isdense), [`keys`](crate::words#keys-of-slotmap_core-joined), [`pairs`](crate::words#pairs-of-slotmap_secondary-content), [`tables`](crate::words#tables).
     #[inline]
     pub fn with_both<'a, A: Kind<K, T>, B: Kind<K, T>>(
         &'a self,

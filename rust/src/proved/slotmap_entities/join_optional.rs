@@ -56,7 +56,12 @@ impl<K: Key, E, T: Tables<K>> World<K, E, T> {
     /// It is made in constant time. All its steps together look each entity up once in the table of `A`, and
     /// each that is yielded once in that of `B`. They allocate nothing.
     ///
-    /// ```ignore
+    /// ```
+    /// # use slotmap_proved::{DefaultKey, Global, Key};
+    /// # use slotmap_proved::entities::{Apart, CloneKind, CloneTable, CloneTables, First, Kind, Second, Table, World};
+    /// # use slotmap_proved::fallible::{SecondaryMap, SparseSecondaryMap};
+    /// # fn main() -> Result<(), Box<dyn std::error::Error>> {
+    /// # let alloc = Global;
     /// type Tables = (
     ///     SecondaryMap<DefaultKey, u32>,
     ///     (SparseSecondaryMap<DefaultKey, u64>, ()),
@@ -69,6 +74,8 @@ impl<K: Key, E, T: Tables<K>> World<K, E, T> {
     /// assert_eq!(found.next(), Some((hero, &7, Some(&8))));
     /// assert_eq!(found.next(), Some((plain, &9, None)));
     /// assert_eq!(found.next(), None);
+    /// # Ok(())
+    /// # }
     /// ```
     ///
     /// # Proved
@@ -78,6 +85,8 @@ impl<K: Key, E, T: Tables<K>> World<K, E, T> {
     /// // So each of them is an entity, and is there once.
     /// ensures valid { IsDense self.now.entities }
     /// ```
+    ///
+    /// Words: [`entities`](crate::words#entities), [`get`](crate::words#get), [`IsDense`](crate::words#isdense), [`keys`](crate::words#keys-of-slotmap_core-joined), [`optional_found_by`](crate::words#optional_found_by), [`pairs`](crate::words#pairs-of-slotmap_secondary-content), [`tables`](crate::words#tables).
     #[inline]
     pub fn with_optional<'a, A: Kind<K, T>, B: Kind<K, T>>(
         &'a self,

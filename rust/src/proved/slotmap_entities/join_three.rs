@@ -64,7 +64,12 @@ impl<K: Key, E, T: Tables<K>> World<K, E, T> {
     /// It is made in constant time. All its steps together look each entity up once in the three
     /// tables, and allocate nothing.
     ///
-    /// ```ignore
+    /// ```
+    /// # use slotmap_proved::{DefaultKey, Global, Key};
+    /// # use slotmap_proved::entities::{Apart, CloneKind, CloneTable, CloneTables, First, Kind, Second, Table, Third, World};
+    /// # use slotmap_proved::fallible::{SecondaryMap, SparseSecondaryMap};
+    /// # fn main() -> Result<(), Box<dyn std::error::Error>> {
+    /// # let alloc = Global;
     /// type Tables = (
     ///     SecondaryMap<DefaultKey, u32>,
     ///     (SecondaryMap<DefaultKey, u64>, (SparseSecondaryMap<DefaultKey, bool>, ())),
@@ -75,15 +80,20 @@ impl<K: Key, E, T: Tables<K>> World<K, E, T> {
     /// world.attach::<Third>(hero, true)?;
     /// let mut found = world.with_three::<First, Second, Third>();
     /// assert_eq!(found.next(), Some((hero, &7, &8, &true)));
+    /// # Ok(())
+    /// # }
     /// ```
     ///
     /// # Proved
     ///
     /// ```text
-    /// ensures in_order { result ≡ three_found_by (get (A.Table.pairs (A.table self.now.tables))) (get (B.Table.pairs (B.table self.now.tables))) (get (C.Table.pairs (C.table self.now.tables))) self.now.entities.keys }
+    /// ensures in_order { result ≡ three_found_by (get (A.Table.pairs (A.table self.now.tables))) (get (B.Table.pairs (B.table self.now.tables)))
+    ///     (get (C.Table.pairs (C.table self.now.tables))) self.now.entities.keys }
     /// // So each of them is an entity, and is there once.
     /// ensures valid { IsDense self.now.entities }
     /// ```
+    ///
+    /// Words: [`entities`](crate::words#entities), [`get`](crate::words#get), [`IsDense`](crate::words#isdense), [`keys`](crate::words#keys-of-slotmap_core-joined), [`pairs`](crate::words#pairs-of-slotmap_secondary-content), [`tables`](crate::words#tables), [`three_found_by`](crate::words#three_found_by).
     #[inline]
     pub fn with_three<'a, A: Kind<K, T>, B: Kind<K, T>, C: Kind<K, T>>(
         &'a self,

@@ -57,7 +57,12 @@ impl<K: Key, E, T: Tables<K>> World<K, E, T> {
     /// It is made in constant time. All its steps together look each entity up once in the two
     /// tables, and allocate nothing.
     ///
-    /// ```ignore
+    /// ```
+    /// # use slotmap_proved::{DefaultKey, Global, Key};
+    /// # use slotmap_proved::entities::{Apart, CloneKind, CloneTable, CloneTables, First, Kind, Second, Table, World};
+    /// # use slotmap_proved::fallible::{SecondaryMap, SparseSecondaryMap};
+    /// # fn main() -> Result<(), Box<dyn std::error::Error>> {
+    /// # let alloc = Global;
     /// type Tables = (
     ///     SecondaryMap<DefaultKey, u32>,
     ///     (SparseSecondaryMap<DefaultKey, u64>, ()),
@@ -68,6 +73,8 @@ impl<K: Key, E, T: Tables<K>> World<K, E, T> {
     /// let mut found = world.with_without::<First, Second>();
     /// assert_eq!(found.next(), Some((plain, &9)));
     /// assert_eq!(found.next(), None);
+    /// # Ok(())
+    /// # }
     /// ```
     ///
     /// # Proved
@@ -77,6 +84,8 @@ impl<K: Key, E, T: Tables<K>> World<K, E, T> {
     /// // So each of them is an entity, and is there once.
     /// ensures valid { IsDense self.now.entities }
     /// ```
+    ///
+    /// Words: [`contains_key`](crate::words#contains_key), [`entities`](crate::words#entities), [`found_without`](crate::words#found_without), [`get`](crate::words#get), [`IsDense`](crate::words#isdense), [`keys`](crate::words#keys-of-slotmap_core-joined), [`pairs`](crate::words#pairs-of-slotmap_secondary-content), [`tables`](crate::words#tables).
     #[inline]
     pub fn with_without<'a, A: Kind<K, T>, B: Kind<K, T>>(
         &'a self,

@@ -20,11 +20,18 @@ pub trait Kind<K: Key, T: Tables<K>>: crate::sealed::Kind<K, T> {
 
     /// Returns its table.
     ///
-    /// ```ignore
+    /// ```
+    /// # use slotmap_proved::{DefaultKey, Global, Key, KeyData};
+    /// # use slotmap_proved::entities::{Apart, CloneKind, CloneTable, CloneTables, First, Kind, Table, Tables};
+    /// # use slotmap_proved::fallible::SecondaryMap;
+    /// # fn main() -> Result<(), Box<dyn std::error::Error>> {
+    /// # let alloc = Global;
     /// let hero = DefaultKey::from(KeyData::new(1, 1));
     /// let mut tables: (SecondaryMap<DefaultKey, u32>, ()) = Tables::new(alloc)?;
     /// tables.0.insert(hero, 7)?;
     /// assert_eq!(First::table(&tables).get(hero), Some(&7));
+    /// # Ok(())
+    /// # }
     /// ```
     ///
     /// # Proved
@@ -36,11 +43,18 @@ pub trait Kind<K: Key, T: Tables<K>>: crate::sealed::Kind<K, T> {
 
     /// Returns a mutable reference to its table.
     ///
-    /// ```ignore
+    /// ```
+    /// # use slotmap_proved::{DefaultKey, Global, Key, KeyData};
+    /// # use slotmap_proved::entities::{Apart, CloneKind, CloneTable, CloneTables, First, Kind, Table, Tables};
+    /// # use slotmap_proved::fallible::SecondaryMap;
+    /// # fn main() -> Result<(), Box<dyn std::error::Error>> {
+    /// # let alloc = Global;
     /// let hero = DefaultKey::from(KeyData::new(1, 1));
     /// let mut tables: (SecondaryMap<DefaultKey, u32>, ()) = Tables::new(alloc)?;
     /// First::table_mut(&mut tables).insert(hero, 7)?;
     /// assert_eq!(tables.0.get(hero), Some(&7));
+    /// # Ok(())
+    /// # }
     /// ```
     ///
     /// # Proved
@@ -71,7 +85,12 @@ pub trait Kind<K: Key, T: Tables<K>>: crate::sealed::Kind<K, T> {
 /// It says which calls on two kinds there are, as [`World::spawn_with_both`](crate::World::spawn_with_both),
 /// in either order of the kinds.
 ///
-/// ```ignore
+/// ```
+/// # use slotmap_proved::{DefaultKey, Global, Key};
+/// # use slotmap_proved::entities::{Apart, CloneKind, CloneTable, CloneTables, First, Kind, Second, Table, World};
+/// # use slotmap_proved::fallible::{SecondaryMap, SparseSecondaryMap};
+/// # fn main() -> Result<(), Box<dyn std::error::Error>> {
+/// # let alloc = Global;
 /// type Tables = (
 ///     SecondaryMap<DefaultKey, u32>,
 ///     (SparseSecondaryMap<DefaultKey, u64>, ()),
@@ -79,6 +98,8 @@ pub trait Kind<K: Key, T: Tables<K>>: crate::sealed::Kind<K, T> {
 /// let mut world: World<DefaultKey, u8, Tables> = World::new(alloc)?;
 /// let hero = world.spawn_with_both::<Second, First>(1, 8, 7)?;
 /// assert_eq!(world.both::<First, Second>(hero), Some((&7, &8)));
+/// # Ok(())
+/// # }
 /// ```
 ///
 /// This trait is sealed: only types of this crate implement it.

@@ -23,7 +23,12 @@
 //! the entities and the sizes of the tables, `clone` in the slots and these sizes, `retain_components` in
 //! the size of one table.
 //!
-//! ```ignore
+//! ```
+//! # use slotmap_proved::{DefaultKey, Global, Key};
+//! # use slotmap_proved::entities::{Apart, CloneKind, CloneTable, CloneTables, First, Kind, Second, Table, World};
+//! # use slotmap_proved::fallible::{SecondaryMap, SparseSecondaryMap};
+//! # fn main() -> Result<(), Box<dyn std::error::Error>> {
+//! # let alloc = Global;
 //! type Position = First;
 //! type Name = Second;
 //! type Tables = (
@@ -37,6 +42,8 @@
 //! assert_eq!(world.despawn(hero), Some((1, (Some((3, 4)), (None, ())))));
 //! let other = world.spawn(2)?;
 //! assert_eq!(world.component::<Name>(other), None);
+//! # Ok(())
+//! # }
 //! ```
 
 #[allow(unused_imports)]
@@ -87,9 +94,15 @@ impl<E, T: Tables<DefaultKey>> World<DefaultKey, E, T> {
     ///
     /// It fails only if memory runs out.
     ///
-    /// ```ignore
+    /// ```
+    /// # use slotmap_proved::{DefaultKey, Global, Key};
+    /// # use slotmap_proved::entities::{Apart, CloneKind, CloneTable, CloneTables, Kind, Table, Tables, World};
+    /// # fn main() -> Result<(), Box<dyn std::error::Error>> {
+    /// # let alloc = Global;
     /// let world: World<DefaultKey, u8, ()> = World::new(alloc)?;
     /// assert!(world.is_empty());
+    /// # Ok(())
+    /// # }
     /// ```
     ///
     /// # Proved
@@ -99,6 +112,8 @@ impl<E, T: Tables<DefaultKey>> World<DefaultKey, E, T> {
     /// ensures tables { IfOk result (λ world. (q : KeyOf) → T.has world.tables q ≡ false) }
     /// ensures err { IfErr result (λ error. error ≡ ReserveError.Memory) }
     /// ```
+    ///
+    /// Words: [`content`](crate::words#content-of-slotmap_dense-dense), [`entities`](crate::words#entities), [`IsEmpty`](crate::words#isempty), [`IsNew`](crate::words#isnew), [`Key`](crate::words#key), [`tables`](crate::words#tables).
     #[inline]
     pub fn new(alloc: Global) -> Result<Self, ReserveError> {
         World::with_key(alloc)
@@ -110,10 +125,16 @@ impl<E, T: Tables<DefaultKey>> World<DefaultKey, E, T> {
     /// It fails with `TooGreat` if `capacity` is over 4294967294, and with `Memory` if memory runs
     /// out.
     ///
-    /// ```ignore
+    /// ```
+    /// # use slotmap_proved::{DefaultKey, Global, Key};
+    /// # use slotmap_proved::entities::{Apart, CloneKind, CloneTable, CloneTables, Kind, Table, Tables, World};
+    /// # fn main() -> Result<(), Box<dyn std::error::Error>> {
+    /// # let alloc = Global;
     /// let mut world: World<DefaultKey, u8, ()> = World::with_capacity(alloc, 2)?;
     /// assert!(world.capacity() >= 2);
     /// assert!(world.spawn(1).is_ok());
+    /// # Ok(())
+    /// # }
     /// ```
     ///
     /// # Proved
@@ -124,6 +145,8 @@ impl<E, T: Tables<DefaultKey>> World<DefaultKey, E, T> {
     /// ensures room { IfOk result (λ world. capacity ≤ world.entities.content.room) }
     /// ensures err { IfErr result (RefusesCapacity capacity) }
     /// ```
+    ///
+    /// Words: [`content`](crate::words#content-of-slotmap_dense-dense), [`entities`](crate::words#entities), [`IsEmpty`](crate::words#isempty), [`IsNew`](crate::words#isnew), [`Key`](crate::words#key), [`RefusesCapacity`](crate::words#refusescapacity), [`room`](crate::words#room-of-slotmap_core-content), [`tables`](crate::words#tables).
     #[inline]
     pub fn with_capacity(alloc: Global, capacity: usize) -> Result<Self, ReserveError> {
         World::with_capacity_and_key(alloc, capacity)
@@ -135,9 +158,15 @@ impl<K: Key, E, T: Tables<K>> World<K, E, T> {
     ///
     /// It fails only if memory runs out.
     ///
-    /// ```ignore
+    /// ```
+    /// # use slotmap_proved::{Global, Key, NodeKey};
+    /// # use slotmap_proved::entities::{Apart, CloneKind, CloneTable, CloneTables, Kind, Table, Tables, World};
+    /// # fn main() -> Result<(), Box<dyn std::error::Error>> {
+    /// # let alloc = Global;
     /// let world: World<NodeKey, u8, ()> = World::with_key(alloc)?;
     /// assert!(world.is_empty());
+    /// # Ok(())
+    /// # }
     /// ```
     ///
     /// # Proved
@@ -147,6 +176,8 @@ impl<K: Key, E, T: Tables<K>> World<K, E, T> {
     /// ensures tables { IfOk result (λ world. (q : KeyOf) → T.has world.tables q ≡ false) }
     /// ensures err { IfErr result (λ error. error ≡ ReserveError.Memory) }
     /// ```
+    ///
+    /// Words: [`content`](crate::words#content-of-slotmap_dense-dense), [`entities`](crate::words#entities), [`IsEmpty`](crate::words#isempty), [`IsNew`](crate::words#isnew), [`Key`](crate::words#key), [`tables`](crate::words#tables).
     #[inline]
     pub fn with_key(alloc: Global) -> Result<Self, ReserveError> {
         World::with_capacity_and_key(alloc, 0)
@@ -157,9 +188,15 @@ impl<K: Key, E, T: Tables<K>> World<K, E, T> {
     /// It fails with `TooGreat` if `capacity` is over 4294967294, and with `Memory` if memory runs
     /// out.
     ///
-    /// ```ignore
+    /// ```
+    /// # use slotmap_proved::{Global, Key, NodeKey};
+    /// # use slotmap_proved::entities::{Apart, CloneKind, CloneTable, CloneTables, Kind, Table, Tables, World};
+    /// # fn main() -> Result<(), Box<dyn std::error::Error>> {
+    /// # let alloc = Global;
     /// let world: World<NodeKey, u8, ()> = World::with_capacity_and_key(alloc, 2)?;
     /// assert!(world.capacity() >= 2);
+    /// # Ok(())
+    /// # }
     /// ```
     ///
     /// # Proved
@@ -170,6 +207,8 @@ impl<K: Key, E, T: Tables<K>> World<K, E, T> {
     /// ensures room { IfOk result (λ world. capacity ≤ world.entities.content.room) }
     /// ensures err { IfErr result (RefusesCapacity capacity) }
     /// ```
+    ///
+    /// Words: [`content`](crate::words#content-of-slotmap_dense-dense), [`entities`](crate::words#entities), [`IsEmpty`](crate::words#isempty), [`IsNew`](crate::words#isnew), [`Key`](crate::words#key), [`RefusesCapacity`](crate::words#refusescapacity), [`room`](crate::words#room-of-slotmap_core-content), [`tables`](crate::words#tables).
     #[inline]
     pub fn with_capacity_and_key(alloc: Global, capacity: usize) -> Result<Self, ReserveError> {
         let entities = DenseSlotMap::with_capacity_and_key(alloc, capacity)?;
@@ -184,10 +223,16 @@ impl<K: Key, E, T: Tables<K>> World<K, E, T> {
     /// It fails with `TooGreat` if more than 4294967294 entities would be there, counting those whose
     /// slots are retired, and with `Memory` if memory runs out. The world has the same entities then.
     ///
-    /// ```ignore
+    /// ```
+    /// # use slotmap_proved::{DefaultKey, Global, Key};
+    /// # use slotmap_proved::entities::{Apart, CloneKind, CloneTable, CloneTables, Kind, Table, Tables, World};
+    /// # fn main() -> Result<(), Box<dyn std::error::Error>> {
+    /// # let alloc = Global;
     /// let mut world: World<DefaultKey, u8, ()> = World::new(alloc)?;
     /// world.reserve(2)?;
     /// assert!(world.spawn(1).is_ok());
+    /// # Ok(())
+    /// # }
     /// ```
     ///
     /// # Proved
@@ -197,6 +242,8 @@ impl<K: Key, E, T: Tables<K>> World<K, E, T> {
     /// ensures err { IfErr result (RefusesCapacity (used self.old.entities.content + additional)) }
     /// ensures tables { self.new.tables ≡ self.old.tables }
     /// ```
+    ///
+    /// Words: [`content`](crate::words#content-of-slotmap_dense-dense), [`entities`](crate::words#entities), [`MakesDenseRoom`](crate::words#makesdenseroom), [`RefusesCapacity`](crate::words#refusescapacity), [`tables`](crate::words#tables), [`used`](crate::words#used).
     #[inline]
     pub fn reserve(&mut self, additional: usize) -> Result<(), ReserveError> {
         self.entities.reserve(additional)
@@ -204,12 +251,18 @@ impl<K: Key, E, T: Tables<K>> World<K, E, T> {
 
     /// Returns for how many entities there is memory, in constant time.
     ///
-    /// ```ignore
+    /// ```
+    /// # use slotmap_proved::{DefaultKey, Global, Key};
+    /// # use slotmap_proved::entities::{Apart, CloneKind, CloneTable, CloneTables, Kind, Table, Tables, World};
+    /// # fn main() -> Result<(), Box<dyn std::error::Error>> {
+    /// # let alloc = Global;
     /// let mut world: World<DefaultKey, u8, ()> = World::with_capacity_and_key(alloc, 2)?;
     /// let capacity = world.capacity();
     /// assert!(capacity >= 2);
     /// world.spawn(1)?;
     /// assert_eq!(world.capacity(), capacity);
+    /// # Ok(())
+    /// # }
     /// ```
     ///
     /// # Proved
@@ -217,6 +270,8 @@ impl<K: Key, E, T: Tables<K>> World<K, E, T> {
     /// ```text
     /// ensures { result ≡ self.now.entities.content.capacity }
     /// ```
+    ///
+    /// Words: [`capacity`](crate::words#capacity-of-slotmap_core-content), [`content`](crate::words#content-of-slotmap_dense-dense), [`entities`](crate::words#entities).
     #[inline]
     pub fn capacity(&self) -> usize {
         self.entities.capacity()
@@ -224,12 +279,18 @@ impl<K: Key, E, T: Tables<K>> World<K, E, T> {
 
     /// Returns how many entities there are, in constant time.
     ///
-    /// ```ignore
+    /// ```
+    /// # use slotmap_proved::{DefaultKey, Global, Key};
+    /// # use slotmap_proved::entities::{Apart, CloneKind, CloneTable, CloneTables, Kind, Table, Tables, World};
+    /// # fn main() -> Result<(), Box<dyn std::error::Error>> {
+    /// # let alloc = Global;
     /// let mut world: World<DefaultKey, u8, ()> = World::new(alloc)?;
     /// let hero = world.spawn(1)?;
     /// assert_eq!(world.len(), 1);
     /// world.despawn(hero);
     /// assert_eq!(world.len(), 0);
+    /// # Ok(())
+    /// # }
     /// ```
     ///
     /// # Proved
@@ -238,6 +299,8 @@ impl<K: Key, E, T: Tables<K>> World<K, E, T> {
     /// ensures value { result ≡ map.len self.now.entities.content.live }
     /// ensures valid { IsDense self.now.entities }
     /// ```
+    ///
+    /// Words: [`content`](crate::words#content-of-slotmap_dense-dense), [`entities`](crate::words#entities), [`IsDense`](crate::words#isdense), [`live`](crate::words#live).
     #[inline]
     pub fn len(&self) -> usize {
         self.entities.len()
@@ -245,11 +308,17 @@ impl<K: Key, E, T: Tables<K>> World<K, E, T> {
 
     /// Returns whether there is no entity, in constant time.
     ///
-    /// ```ignore
+    /// ```
+    /// # use slotmap_proved::{DefaultKey, Global, Key};
+    /// # use slotmap_proved::entities::{Apart, CloneKind, CloneTable, CloneTables, Kind, Table, Tables, World};
+    /// # fn main() -> Result<(), Box<dyn std::error::Error>> {
+    /// # let alloc = Global;
     /// let mut world: World<DefaultKey, u8, ()> = World::new(alloc)?;
     /// assert!(world.is_empty());
     /// world.spawn(1)?;
     /// assert!(!world.is_empty());
+    /// # Ok(())
+    /// # }
     /// ```
     ///
     /// # Proved
@@ -257,6 +326,8 @@ impl<K: Key, E, T: Tables<K>> World<K, E, T> {
     /// ```text
     /// ensures { IsTrue result ↔ (map.len self.now.entities.content.live ≡ 0) }
     /// ```
+    ///
+    /// Words: [`content`](crate::words#content-of-slotmap_dense-dense), [`entities`](crate::words#entities), [`live`](crate::words#live).
     #[inline]
     pub fn is_empty(&self) -> bool {
         self.len() == 0
@@ -264,12 +335,18 @@ impl<K: Key, E, T: Tables<K>> World<K, E, T> {
 
     /// Returns whether an entity exists, in constant time.
     ///
-    /// ```ignore
+    /// ```
+    /// # use slotmap_proved::{DefaultKey, Global, Key};
+    /// # use slotmap_proved::entities::{Apart, CloneKind, CloneTable, CloneTables, Kind, Table, Tables, World};
+    /// # fn main() -> Result<(), Box<dyn std::error::Error>> {
+    /// # let alloc = Global;
     /// let mut world: World<DefaultKey, u8, ()> = World::new(alloc)?;
     /// let hero = world.spawn(1)?;
     /// assert!(world.contains_key(hero));
     /// world.despawn(hero);
     /// assert!(!world.contains_key(hero));
+    /// # Ok(())
+    /// # }
     /// ```
     ///
     /// # Proved
@@ -277,6 +354,8 @@ impl<K: Key, E, T: Tables<K>> World<K, E, T> {
     /// ```text
     /// ensures { result ≡ map.contains_key self.now.entities.content.live (K.data_of key) }
     /// ```
+    ///
+    /// Words: [`content`](crate::words#content-of-slotmap_dense-dense), [`entities`](crate::words#entities), [`live`](crate::words#live).
     #[inline]
     pub fn contains_key(&self, key: K) -> bool {
         self.entities.contains_key(key)
@@ -287,11 +366,17 @@ impl<K: Key, E, T: Tables<K>> World<K, E, T> {
     /// If there is room, it can't fail, and the capacity stays. If the call fails, the error holds the
     /// value, and the world has the same entities and components.
     ///
-    /// ```ignore
+    /// ```
+    /// # use slotmap_proved::{DefaultKey, Global, Key};
+    /// # use slotmap_proved::entities::{Apart, CloneKind, CloneTable, CloneTables, Kind, Table, Tables, World};
+    /// # fn main() -> Result<(), Box<dyn std::error::Error>> {
+    /// # let alloc = Global;
     /// let mut world: World<DefaultKey, u8, ()> = World::new(alloc)?;
     /// let hero = world.spawn(1)?;
     /// assert_eq!(world.len(), 1);
     /// assert!(world.contains_key(hero));
+    /// # Ok(())
+    /// # }
     /// ```
     ///
     /// # Proved
@@ -306,18 +391,23 @@ impl<K: Key, E, T: Tables<K>> World<K, E, T> {
     /// ensures index { IfOk result (λ key. (K.data_of key).index ≤ places self.old.entities.content + 1) }
     /// // It is the last in the packed order.
     /// ensures order { IfOk result (λ key. Appends self.old.entities (K.data_of key) entity self.new.entities) }
+    ///
     /// // If there is room, it can't fail, and the capacity stays.
     /// ensures room { 0 < self.old.entities.content.room → IsOk result }
     /// ensures in_place { 0 < self.old.entities.content.room → self.new.entities.content.capacity ≡ self.old.entities.content.capacity }
     /// ensures capacity { self.old.entities.content.capacity ≤ self.new.entities.content.capacity }
+    ///
     /// // Why the call failed, and what that leaves.
     /// ensures err { IfErr result (Refuses self.old.entities.content entity) }
     /// ensures unchanged { OnErr result (Keeps self.old.entities.content self.new.entities.content) }
     /// ensures same_order { OnErr result (SameOrder self.old.entities self.new.entities) }
+    ///
     /// // All else is as before.
     /// ensures tables { self.new.tables ≡ self.old.tables }
     /// ensures gone { KeepsSpent self.old.entities.content self.new.entities.content }
     /// ```
+    ///
+    /// Words: [`Appends`](crate::words#appends), [`capacity`](crate::words#capacity-of-slotmap_core-content), [`content`](crate::words#content-of-slotmap_dense-dense), [`entities`](crate::words#entities), [`index`](crate::words#index), [`Inserts`](crate::words#inserts), [`IsSpent`](crate::words#isspent), [`Keeps`](crate::words#keeps), [`KeepsSpent`](crate::words#keepsspent), [`live`](crate::words#live), [`places`](crate::words#places-of-slotmap_core-content), [`Refuses`](crate::words#refuses), [`room`](crate::words#room-of-slotmap_core-content), [`SameOrder`](crate::words#sameorder), [`tables`](crate::words#tables).
     #[inline]
     pub fn spawn(&mut self, entity: E) -> Result<K, InsertError<E>> {
         self.entities.insert(entity)
@@ -328,12 +418,19 @@ impl<K: Key, E, T: Tables<K>> World<K, E, T> {
     /// unless the key was the last of its slot. No table loses room. If the entity doesn't exist, the
     /// call returns `None` and changes nothing.
     ///
-    /// ```ignore
+    /// ```
+    /// # use slotmap_proved::{DefaultKey, Global, Key};
+    /// # use slotmap_proved::entities::{Apart, CloneKind, CloneTable, CloneTables, First, Kind, Table, Tables, World};
+    /// # use slotmap_proved::fallible::SecondaryMap;
+    /// # fn main() -> Result<(), Box<dyn std::error::Error>> {
+    /// # let alloc = Global;
     /// let mut world: World<DefaultKey, u8, (SecondaryMap<DefaultKey, u32>, ())> = World::new(alloc)?;
     /// let hero = world.spawn(1)?;
     /// world.attach::<First>(hero, 7)?;
     /// assert_eq!(world.despawn(hero), Some((1, (Some(7), ()))));
     /// assert_eq!(world.despawn(hero), None);
+    /// # Ok(())
+    /// # }
     /// ```
     ///
     /// # Proved
@@ -348,6 +445,7 @@ impl<K: Key, E, T: Tables<K>> World<K, E, T> {
     /// ensures removes { OnSome result (Removes self.old.entities.content (K.data_of key) self.new.entities.content) }
     /// // The last entity takes its position in the packed order.
     /// ensures order { IfSome result (λ removed. ClosesGap self.old.entities (K.data_of key) removed.0 self.new.entities) }
+    ///
     /// // All else is as before.
     /// ensures leaves { Leaves self.old.entities.content self.new.entities.content }
     /// ensures capacity { self.new.entities.content.capacity ≡ self.old.entities.content.capacity }
@@ -356,6 +454,8 @@ impl<K: Key, E, T: Tables<K>> World<K, E, T> {
     /// ensures gone { KeepsSpent self.old.entities.content self.new.entities.content }
     /// ensures unchanged { IfNone result (self.new ≡ self.old) }
     /// ```
+    ///
+    /// Words: [`capacity`](crate::words#capacity-of-slotmap_core-content), [`ClosesGap`](crate::words#closesgap), [`content`](crate::words#content-of-slotmap_dense-dense), [`entities`](crate::words#entities), [`IsLive`](crate::words#islive), [`IsSpent`](crate::words#isspent), [`KeepsSpent`](crate::words#keepsspent), [`Key`](crate::words#key), [`Leaves`](crate::words#leaves), [`live`](crate::words#live), [`Removes`](crate::words#removes), [`tables`](crate::words#tables).
     #[inline]
     pub fn despawn(&mut self, key: K) -> Option<(E, T::Parts)> {
         let value = self.entities.remove(key)?;
@@ -367,11 +467,17 @@ impl<K: Key, E, T: Tables<K>> World<K, E, T> {
     /// their slots. Each table has room for as many components in all as before. It takes time linear in the
     /// number of entities and in the sizes of the tables.
     ///
-    /// ```ignore
+    /// ```
+    /// # use slotmap_proved::{DefaultKey, Global, Key};
+    /// # use slotmap_proved::entities::{Apart, CloneKind, CloneTable, CloneTables, Kind, Table, Tables, World};
+    /// # fn main() -> Result<(), Box<dyn std::error::Error>> {
+    /// # let alloc = Global;
     /// let mut world: World<DefaultKey, u8, ()> = World::new(alloc)?;
     /// let hero = world.spawn(1)?;
     /// world.clear();
     /// assert!(!world.contains_key(hero));
+    /// # Ok(())
+    /// # }
     /// ```
     ///
     /// # Proved
@@ -387,6 +493,8 @@ impl<K: Key, E, T: Tables<K>> World<K, E, T> {
     /// ensures room { T.keeps_room self.old.tables self.new.tables }
     /// ensures gives_back { T.gives_back self.old.tables self.new.tables }
     /// ```
+    ///
+    /// Words: [`capacity`](crate::words#capacity-of-slotmap_core-content), [`content`](crate::words#content-of-slotmap_dense-dense), [`entities`](crate::words#entities), [`IsEmpty`](crate::words#isempty), [`IsLive`](crate::words#islive), [`IsSpent`](crate::words#isspent), [`KeepsSpent`](crate::words#keepsspent), [`Key`](crate::words#key), [`Leaves`](crate::words#leaves), [`live`](crate::words#live), [`tables`](crate::words#tables).
     #[inline]
     pub fn clear(&mut self) {
         self.entities.clear();
@@ -395,10 +503,16 @@ impl<K: Key, E, T: Tables<K>> World<K, E, T> {
 
     /// Returns the value of an entity, or `None` if it doesn't exist.
     ///
-    /// ```ignore
+    /// ```
+    /// # use slotmap_proved::{DefaultKey, Global, Key};
+    /// # use slotmap_proved::entities::{Apart, CloneKind, CloneTable, CloneTables, Kind, Table, Tables, World};
+    /// # fn main() -> Result<(), Box<dyn std::error::Error>> {
+    /// # let alloc = Global;
     /// let mut world: World<DefaultKey, u8, ()> = World::new(alloc)?;
     /// let hero = world.spawn(1)?;
     /// assert_eq!(world.get(hero), Some(&1));
+    /// # Ok(())
+    /// # }
     /// ```
     ///
     /// # Proved
@@ -406,6 +520,8 @@ impl<K: Key, E, T: Tables<K>> World<K, E, T> {
     /// ```text
     /// ensures { option_copied result ≡ map.get self.now.entities.content.live (K.data_of key) }
     /// ```
+    ///
+    /// Words: [`content`](crate::words#content-of-slotmap_dense-dense), [`entities`](crate::words#entities), [`live`](crate::words#live).
     #[inline]
     pub fn get(&self, key: K) -> Option<&E> {
         self.entities.get(key)
@@ -413,13 +529,19 @@ impl<K: Key, E, T: Tables<K>> World<K, E, T> {
 
     /// Returns a mutable reference to the value of an entity, or `None` if it doesn't exist.
     ///
-    /// ```ignore
+    /// ```
+    /// # use slotmap_proved::{DefaultKey, Global, Key};
+    /// # use slotmap_proved::entities::{Apart, CloneKind, CloneTable, CloneTables, Kind, Table, Tables, World};
+    /// # fn main() -> Result<(), Box<dyn std::error::Error>> {
+    /// # let alloc = Global;
     /// let mut world: World<DefaultKey, u8, ()> = World::new(alloc)?;
     /// let hero = world.spawn(1)?;
     /// if let Some(value) = world.get_mut(hero) {
     ///     *value = 2;
     /// }
     /// assert_eq!(world.get(hero), Some(&2));
+    /// # Ok(())
+    /// # }
     /// ```
     ///
     /// # Proved
@@ -428,6 +550,8 @@ impl<K: Key, E, T: Tables<K>> World<K, E, T> {
     /// ensures* writes_back { sem 𝓛 (lends_entity K.row E.row T.row T.Parts.row K.Key T.Tables self.entry (K.data_of key) result) }
     /// ensures value { option_copied_mut result ≡ map.get self.old.entities.content.live (K.data_of key) }
     /// ```
+    ///
+    /// Words: [`content`](crate::words#content-of-slotmap_dense-dense), [`entities`](crate::words#entities), [`lends_entity`](crate::words#lends_entity), [`live`](crate::words#live).
     #[inline]
     pub fn get_mut(&mut self, key: K) -> Option<&mut E> {
         match self.entities.get_mut(key) {
@@ -439,11 +563,18 @@ impl<K: Key, E, T: Tables<K>> World<K, E, T> {
     /// Returns the tables, for example to go through one with few components. Only entities have
     /// components.
     ///
-    /// ```ignore
+    /// ```
+    /// # use slotmap_proved::{DefaultKey, Global, Key};
+    /// # use slotmap_proved::entities::{Apart, CloneKind, CloneTable, CloneTables, First, Kind, Table, Tables, World};
+    /// # use slotmap_proved::fallible::SparseSecondaryMap;
+    /// # fn main() -> Result<(), Box<dyn std::error::Error>> {
+    /// # let alloc = Global;
     /// let mut world: World<DefaultKey, u8, (SparseSecondaryMap<DefaultKey, u32>, ())> = World::new(alloc)?;
     /// let hero = world.spawn(1)?;
     /// world.attach::<First>(hero, 7)?;
     /// assert_eq!(world.tables().0.iter().next(), Some((hero, &7)));
+    /// # Ok(())
+    /// # }
     /// ```
     ///
     /// # Proved
@@ -452,6 +583,8 @@ impl<K: Key, E, T: Tables<K>> World<K, E, T> {
     /// ensures tables { result.now ≡ self.now.tables }
     /// ensures live { (k : KeyOf) → T.has result.now k ≡ true → IsLive self.now.entities.content k }
     /// ```
+    ///
+    /// Words: [`content`](crate::words#content-of-slotmap_dense-dense), [`entities`](crate::words#entities), [`IsLive`](crate::words#islive), [`Key`](crate::words#key), [`tables`](crate::words#tables).
     #[inline]
     pub fn tables(&self) -> &T {
         &self.tables

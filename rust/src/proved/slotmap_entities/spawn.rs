@@ -81,46 +81,18 @@ impl<K: Key, E, T: Tables<K>> World<K, E, T> {
     /// Constant time, unless the map or the table grows or is built anew. Further components are added by
     /// [`World::attach`].
     ///
-    /// ```ignore
+    /// ```
+    /// # use slotmap_proved::{DefaultKey, Global, Key};
+    /// # use slotmap_proved::entities::{Apart, CloneKind, CloneTable, CloneTables, First, Kind, Table, Tables, World};
+    /// # use slotmap_proved::fallible::SecondaryMap;
+    /// # fn main() -> Result<(), Box<dyn std::error::Error>> {
+    /// # let alloc = Global;
     /// let mut world: World<DefaultKey, u8, (SecondaryMap<DefaultKey, u32>, ())> = World::new(alloc)?;
     /// let hero = world.spawn_with::<First>(1, 7)?;
     /// assert_eq!(world.get(hero), Some(&1));
     /// assert_eq!(world.component::<First>(hero), Some(&7));
-    /// ```
-    ///
-    /// # Proved
-    ///
-    /// ```text
-    /// // A new entity, with this component.
-    /// ensures adds { IfOk result (λ key. Inserts self.old.entities.content (K.data_of key) entity self.new.entities.content) }
-    /// ensures there { IfOk result (λ key. get (C.Table.pairs (C.table self.new.tables)) (K.data_of key) ≡ Some component) }
-    /// // It has no other one: it had none in any table before, and the other kinds are as they were.
-    /// ensures no_others { IfOk result (λ key. T.has self.old.tables (K.data_of key) ≡ false) }
-    /// ensures fresh { IfOk result (λ key. map.get self.old.entities.content.live (K.data_of key) ≡ None) }
-    /// ensures unspent { IfOk result (λ key. IsSpent self.old.entities.content (K.data_of key) → ⊥) }
-    /// // Its index is at most one more than there were slots.
-    /// ensures index { IfOk result (λ key. (K.data_of key).index ≤ places self.old.entities.content + 1) }
-    /// // It is the last in the packed order.
-    /// ensures order { IfOk result (λ key. Appends self.old.entities (K.data_of key) entity self.new.entities) }
-    /// // If there is room for the entity, and for its component in the table, it can't fail. It takes up
-    /// // room for one component at most, and none if it fails.
-    /// ensures room { 0 < self.old.entities.content.room → C.Table.fits (C.table self.old.tables) self.old.entities.content.offer.index 1 → IsOk result }
-    /// ensures less_room { (i count : ℕ) → C.Table.fits (C.table self.old.tables) i (count + 1) → C.Table.fits (C.table self.new.tables) i count }
-    /// ensures refused_room { OnErr result ((i count : ℕ) → C.Table.fits (C.table self.old.tables) i count → C.Table.fits (C.table self.new.tables) i count) }
-    /// // The index of the next key is at most one more than there are slots.
-    /// ensures offered { 0 < self.old.entities.content.room → self.old.entities.content.offer.index ≤ places self.old.entities.content + 1 }
-    /// // If there is room for the entity, the capacity stays.
-    /// ensures in_place { 0 < self.old.entities.content.room → self.new.entities.content.capacity ≡ self.old.entities.content.capacity }
-    /// ensures capacity { self.old.entities.content.capacity ≤ self.new.entities.content.capacity }
-    /// // Why the call failed, and what that leaves: the same entities with the same components.
-    /// ensures err { IfErr result (RefusesSpawn self.old.entities.content entity component) }
-    /// ensures unchanged { OnErr result (Keeps self.old.entities.content self.new.entities.content) }
-    /// ensures same_order { OnErr result (SameOrder self.old.entities self.new.entities) }
-    /// ensures same_components { OnErr result (C.Table.pairs (C.table self.new.tables) ≡ C.Table.pairs (C.table self.old.tables)) }
-    /// // All else is as before: the other components of this kind, and the other kinds.
-    /// ensures others { IfOk result (λ key. (q : KeyOf) → q ≢ K.data_of key → get (C.Table.pairs (C.table self.new.tables)) q ≡ get (C.Table.pairs (C.table self.old.tables)) q) }
-    /// ensures kinds { self.new.tables ≡ C.with_table self.old.tables (C.table self.new.tables) }
-    /// ensures gone { KeepsSpent self.old.entities.content self.new.entities.content }
+    /// # Ok(())
+    /// # }
     /// ```
     #[inline]
     pub fn spawn_with<C: Kind<K, T>>(

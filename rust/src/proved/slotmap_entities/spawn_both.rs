@@ -51,7 +51,12 @@ impl<K: Key, E, T: Tables<K>> World<K, E, T> {
     /// unless the map or a table grows or is built anew. With one kind twice the call doesn't compile
     /// (see [`Apart`]).
     ///
-    /// ```ignore
+    /// ```
+    /// # use slotmap_proved::{DefaultKey, Global, Key};
+    /// # use slotmap_proved::entities::{Apart, CloneKind, CloneTable, CloneTables, First, Kind, Second, Table, World};
+    /// # use slotmap_proved::fallible::{SecondaryMap, SparseSecondaryMap};
+    /// # fn main() -> Result<(), Box<dyn std::error::Error>> {
+    /// # let alloc = Global;
     /// type Tables = (
     ///     SecondaryMap<DefaultKey, u32>,
     ///     (SparseSecondaryMap<DefaultKey, u64>, ()),
@@ -60,44 +65,8 @@ impl<K: Key, E, T: Tables<K>> World<K, E, T> {
     /// let hero = world.spawn_with_both::<First, Second>(1, 7, 8)?;
     /// assert_eq!(world.get(hero), Some(&1));
     /// assert_eq!(world.both::<First, Second>(hero), Some((&7, &8)));
-    /// ```
-    ///
-    /// # Proved
-    ///
-    /// ```text
-    /// // A new entity, with these components.
-    /// ensures adds { IfOk result (λ key. Inserts self.old.entities.content (K.data_of key) entity self.new.entities.content) }
-    /// ensures first { IfOk result (λ key. Gains (A.Table.pairs (A.table self.old.tables)) (K.data_of key) first (A.Table.pairs (A.table self.new.tables))) }
-    /// ensures second { IfOk result (λ key. Gains (B.Table.pairs (B.table self.old.tables)) (K.data_of key) second (B.Table.pairs (B.table self.new.tables))) }
-    /// // It has no other one: it had none in any table before, and the other kinds are as they were.
-    /// ensures no_others { IfOk result (λ key. T.has self.old.tables (K.data_of key) ≡ false) }
-    /// ensures fresh { IfOk result (λ key. map.get self.old.entities.content.live (K.data_of key) ≡ None) }
-    /// ensures unspent { IfOk result (λ key. IsSpent self.old.entities.content (K.data_of key) → ⊥) }
-    /// // Its index is at most one more than there were slots.
-    /// ensures index { IfOk result (λ key. (K.data_of key).index ≤ places self.old.entities.content + 1) }
-    /// // It is the last in the packed order.
-    /// ensures order { IfOk result (λ key. Appends self.old.entities (K.data_of key) entity self.new.entities) }
-    /// // If there is room for the entity, and for its components in both tables, it can't fail. It takes
-    /// // up room for one component at most in each, and none if it fails.
-    /// ensures room { 0 < self.old.entities.content.room → A.Table.fits (A.table self.old.tables) self.old.entities.content.offer.index 1 → B.Table.fits (B.table self.old.tables) self.old.entities.content.offer.index 1 → IsOk result }
-    /// ensures less_first_room { (i count : ℕ) → A.Table.fits (A.table self.old.tables) i (count + 1) → A.Table.fits (A.table self.new.tables) i count }
-    /// ensures less_second_room { (i count : ℕ) → B.Table.fits (B.table self.old.tables) i (count + 1) → B.Table.fits (B.table self.new.tables) i count }
-    /// ensures refused_first_room { OnErr result ((i count : ℕ) → A.Table.fits (A.table self.old.tables) i count → A.Table.fits (A.table self.new.tables) i count) }
-    /// ensures refused_second_room { OnErr result ((i count : ℕ) → B.Table.fits (B.table self.old.tables) i count → B.Table.fits (B.table self.new.tables) i count) }
-    /// // The index of the next key is at most one more than there are slots.
-    /// ensures offered { 0 < self.old.entities.content.room → self.old.entities.content.offer.index ≤ places self.old.entities.content + 1 }
-    /// // If there is room for the entity, the capacity stays.
-    /// ensures in_place { 0 < self.old.entities.content.room → self.new.entities.content.capacity ≡ self.old.entities.content.capacity }
-    /// ensures capacity { self.old.entities.content.capacity ≤ self.new.entities.content.capacity }
-    /// // Why the call failed, and what that leaves: the same entities with the same components.
-    /// ensures err { IfErr result (RefusesSpawn self.old.entities.content entity (first, second)) }
-    /// ensures unchanged { OnErr result (Keeps self.old.entities.content self.new.entities.content) }
-    /// ensures same_order { OnErr result (SameOrder self.old.entities self.new.entities) }
-    /// ensures same_first { OnErr result (A.Table.pairs (A.table self.new.tables) ≡ A.Table.pairs (A.table self.old.tables)) }
-    /// ensures same_second { OnErr result (B.Table.pairs (B.table self.new.tables) ≡ B.Table.pairs (B.table self.old.tables)) }
-    /// // All else is as before: the other kinds.
-    /// ensures kinds { self.new.tables ≡ B.with_table (A.with_table self.old.tables (A.table self.new.tables)) (B.table self.new.tables) }
-    /// ensures gone { KeepsSpent self.old.entities.content self.new.entities.content }
+    /// # Ok(())
+    /// # }
     /// ```
     #[inline]
     pub fn spawn_with_both<A: Apart<K, T, B>, B: Kind<K, T>>(

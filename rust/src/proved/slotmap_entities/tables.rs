@@ -31,9 +31,16 @@ pub trait Table<K: Key>: crate::sealed::Table<K> + Sized {
 
     /// Makes an empty table. It fails only if memory runs out.
     ///
-    /// ```ignore
+    /// ```
+    /// # use slotmap_proved::{DefaultKey, Global, Key};
+    /// # use slotmap_proved::entities::{Apart, CloneKind, CloneTable, CloneTables, Kind, Table, Tables};
+    /// # use slotmap_proved::fallible::SparseSecondaryMap;
+    /// # fn main() -> Result<(), Box<dyn std::error::Error>> {
+    /// # let alloc = Global;
     /// let table: SparseSecondaryMap<DefaultKey, u32> = Table::new(alloc)?;
     /// assert!(table.is_empty());
+    /// # Ok(())
+    /// # }
     /// ```
     ///
     /// # Proved
@@ -53,11 +60,18 @@ pub trait Table<K: Key>: crate::sealed::Table<K> + Sized {
     /// The table has the same components then. If they fit already, nothing changes, and only a number
     /// that is too great is refused.
     ///
-    /// ```ignore
+    /// ```
+    /// # use slotmap_proved::{DefaultKey, Global, Key, KeyData};
+    /// # use slotmap_proved::entities::{Apart, CloneKind, CloneTable, CloneTables, Kind, Table, Tables};
+    /// # use slotmap_proved::fallible::SparseSecondaryMap;
+    /// # fn main() -> Result<(), Box<dyn std::error::Error>> {
+    /// # let alloc = Global;
     /// let hero = DefaultKey::from(KeyData::new(1, 1));
     /// let mut table: SparseSecondaryMap<DefaultKey, u32> = Table::new(alloc)?;
     /// Table::reserve(&mut table, 1, 1)?;
     /// assert!(Table::insert(&mut table, hero, 7).is_ok());
+    /// # Ok(())
+    /// # }
     /// ```
     ///
     /// # Proved
@@ -74,12 +88,19 @@ pub trait Table<K: Key>: crate::sealed::Table<K> + Sized {
 
     /// Returns whether an entity has a component here.
     ///
-    /// ```ignore
+    /// ```
+    /// # use slotmap_proved::{DefaultKey, Global, Key, KeyData};
+    /// # use slotmap_proved::entities::{Apart, CloneKind, CloneTable, CloneTables, Kind, Table, Tables};
+    /// # use slotmap_proved::fallible::SparseSecondaryMap;
+    /// # fn main() -> Result<(), Box<dyn std::error::Error>> {
+    /// # let alloc = Global;
     /// let hero = DefaultKey::from(KeyData::new(1, 1));
     /// let mut table: SparseSecondaryMap<DefaultKey, u32> = Table::new(alloc)?;
     /// assert!(!Table::contains_key(&table, hero));
     /// Table::insert(&mut table, hero, 7)?;
     /// assert!(Table::contains_key(&table, hero));
+    /// # Ok(())
+    /// # }
     /// ```
     ///
     /// # Proved
@@ -87,16 +108,25 @@ pub trait Table<K: Key>: crate::sealed::Table<K> + Sized {
     /// ```text
     /// ensures { result ≡ contains_key (pairs self.now) (K.data_of key) }
     /// ```
+    ///
+    /// Words: [`contains_key`](crate::words#contains_key).
     fn contains_key(&self, key: K) -> bool;
 
     /// Returns the component of an entity, or `None` if it has none here.
     ///
-    /// ```ignore
+    /// ```
+    /// # use slotmap_proved::{DefaultKey, Global, Key, KeyData};
+    /// # use slotmap_proved::entities::{Apart, CloneKind, CloneTable, CloneTables, Kind, Table, Tables};
+    /// # use slotmap_proved::fallible::SparseSecondaryMap;
+    /// # fn main() -> Result<(), Box<dyn std::error::Error>> {
+    /// # let alloc = Global;
     /// let hero = DefaultKey::from(KeyData::new(1, 1));
     /// let mut table: SparseSecondaryMap<DefaultKey, u32> = Table::new(alloc)?;
     /// assert_eq!(Table::get(&table, hero), None);
     /// Table::insert(&mut table, hero, 7)?;
     /// assert_eq!(Table::get(&table, hero), Some(&7));
+    /// # Ok(())
+    /// # }
     /// ```
     ///
     /// # Proved
@@ -104,11 +134,18 @@ pub trait Table<K: Key>: crate::sealed::Table<K> + Sized {
     /// ```text
     /// ensures { option_copied result ≡ get (pairs self.now) (K.data_of key) }
     /// ```
+    ///
+    /// Words: [`get`](crate::words#get).
     fn get(&self, key: K) -> Option<&Self::Component>;
 
     /// Returns a mutable reference to the component of an entity, or `None` if it has none here.
     ///
-    /// ```ignore
+    /// ```
+    /// # use slotmap_proved::{DefaultKey, Global, Key, KeyData};
+    /// # use slotmap_proved::entities::{Apart, CloneKind, CloneTable, CloneTables, Kind, Table, Tables};
+    /// # use slotmap_proved::fallible::SparseSecondaryMap;
+    /// # fn main() -> Result<(), Box<dyn std::error::Error>> {
+    /// # let alloc = Global;
     /// let hero = DefaultKey::from(KeyData::new(1, 1));
     /// let mut table: SparseSecondaryMap<DefaultKey, u32> = Table::new(alloc)?;
     /// Table::insert(&mut table, hero, 7)?;
@@ -116,6 +153,8 @@ pub trait Table<K: Key>: crate::sealed::Table<K> + Sized {
     ///     *component = 8;
     /// }
     /// assert_eq!(Table::get(&table, hero), Some(&8));
+    /// # Ok(())
+    /// # }
     /// ```
     ///
     /// # Proved
@@ -124,6 +163,8 @@ pub trait Table<K: Key>: crate::sealed::Table<K> + Sized {
     /// ensures* writes_back { sem 𝓛 (LendsIf Self.row Self.Component.row self.entry result (with_value self.old (K.data_of key)) self.old) }
     /// ensures value { option_copied_mut result ≡ get (pairs self.old) (K.data_of key) }
     /// ```
+    ///
+    /// Words: [`get`](crate::words#get).
     fn get_mut(&mut self, key: K) -> Option<&mut Self::Component>;
 
     /// Inserts a component, and returns the one that the entity had. If memory runs out, the error
@@ -133,11 +174,18 @@ pub trait Table<K: Key>: crate::sealed::Table<K> + Sized {
     /// A null key, or one older than that at its index, changes nothing: the component is dropped, and
     /// the result is `Ok(None)`. A newer key replaces an older one at its index.
     ///
-    /// ```ignore
+    /// ```
+    /// # use slotmap_proved::{DefaultKey, Global, Key, KeyData};
+    /// # use slotmap_proved::entities::{Apart, CloneKind, CloneTable, CloneTables, Kind, Table, Tables};
+    /// # use slotmap_proved::fallible::SparseSecondaryMap;
+    /// # fn main() -> Result<(), Box<dyn std::error::Error>> {
+    /// # let alloc = Global;
     /// let hero = DefaultKey::from(KeyData::new(1, 1));
     /// let mut table: SparseSecondaryMap<DefaultKey, u32> = Table::new(alloc)?;
     /// assert_eq!(Table::insert(&mut table, hero, 7)?, None);
     /// assert_eq!(Table::insert(&mut table, hero, 8)?, Some(7));
+    /// # Ok(())
+    /// # }
     /// ```
     ///
     /// # Proved
@@ -152,6 +200,8 @@ pub trait Table<K: Key>: crate::sealed::Table<K> + Sized {
     /// ensures refused_room { OnErr result ((i count : ℕ) → fits self.old i count → fits self.new i count) }
     /// ensures replaced_room { contains_key (pairs self.old) (K.data_of key) ≡ true → (i count : ℕ) → fits self.old i count → fits self.new i count }
     /// ```
+    ///
+    /// Words: [`contains_key`](crate::words#contains_key), [`get`](crate::words#get), [`index`](crate::words#index), [`put`](crate::words#put), [`RefusesPut`](crate::words#refusesput).
     fn insert(
         &mut self,
         key: K,
@@ -160,12 +210,19 @@ pub trait Table<K: Key>: crate::sealed::Table<K> + Sized {
 
     /// Removes the component of an entity, and returns it, or `None` if it has none here.
     ///
-    /// ```ignore
+    /// ```
+    /// # use slotmap_proved::{DefaultKey, Global, Key, KeyData};
+    /// # use slotmap_proved::entities::{Apart, CloneKind, CloneTable, CloneTables, Kind, Table, Tables};
+    /// # use slotmap_proved::fallible::SparseSecondaryMap;
+    /// # fn main() -> Result<(), Box<dyn std::error::Error>> {
+    /// # let alloc = Global;
     /// let hero = DefaultKey::from(KeyData::new(1, 1));
     /// let mut table: SparseSecondaryMap<DefaultKey, u32> = Table::new(alloc)?;
     /// Table::insert(&mut table, hero, 7)?;
     /// assert_eq!(Table::remove(&mut table, hero), Some(7));
     /// assert_eq!(Table::remove(&mut table, hero), None);
+    /// # Ok(())
+    /// # }
     /// ```
     ///
     /// # Proved
@@ -176,17 +233,26 @@ pub trait Table<K: Key>: crate::sealed::Table<K> + Sized {
     /// ensures room { (i count : ℕ) → fits self.old i count → fits self.new i count }
     /// ensures capacity { keeps_capacity self.old self.new }
     /// ```
+    ///
+    /// Words: [`get`](crate::words#get), [`remove`](crate::words#remove).
     fn remove(&mut self, key: K) -> Option<Self::Component>;
 
     /// Calls `f` once for each component, which it may change, and removes those for which it returns
     /// false.
     ///
-    /// ```ignore
+    /// ```
+    /// # use slotmap_proved::{DefaultKey, Global, Key, KeyData};
+    /// # use slotmap_proved::entities::{Apart, CloneKind, CloneTable, CloneTables, Kind, Table, Tables};
+    /// # use slotmap_proved::fallible::SparseSecondaryMap;
+    /// # fn main() -> Result<(), Box<dyn std::error::Error>> {
+    /// # let alloc = Global;
     /// let hero = DefaultKey::from(KeyData::new(1, 1));
     /// let mut table: SparseSecondaryMap<DefaultKey, u32> = Table::new(alloc)?;
     /// Table::insert(&mut table, hero, 7)?;
     /// Table::retain(&mut table, |_, component| *component > 7);
     /// assert!(!Table::contains_key(&table, hero));
+    /// # Ok(())
+    /// # }
     /// ```
     ///
     /// # Proved
@@ -197,18 +263,27 @@ pub trait Table<K: Key>: crate::sealed::Table<K> + Sized {
     /// ensures room { (i count : ℕ) → fits self.old i count → fits self.new i count }
     /// ensures capacity { keeps_capacity self.old self.new }
     /// ```
+    ///
+    /// Words: [`CallableOnEach`](crate::words#callableoneach), [`keyed`](crate::words#keyed), [`RetainsBy`](crate::words#retainsby).
     fn retain<F: FnMut(K, &mut Self::Component) -> bool>(&mut self, f: F)
     where
         F: Sized,;
 
     /// Removes all components. There is room for as many in all as before.
     ///
-    /// ```ignore
+    /// ```
+    /// # use slotmap_proved::{DefaultKey, Global, Key, KeyData};
+    /// # use slotmap_proved::entities::{Apart, CloneKind, CloneTable, CloneTables, Kind, Table, Tables};
+    /// # use slotmap_proved::fallible::SparseSecondaryMap;
+    /// # fn main() -> Result<(), Box<dyn std::error::Error>> {
+    /// # let alloc = Global;
     /// let hero = DefaultKey::from(KeyData::new(1, 1));
     /// let mut table: SparseSecondaryMap<DefaultKey, u32> = Table::new(alloc)?;
     /// Table::insert(&mut table, hero, 7)?;
     /// Table::clear(&mut table);
     /// assert!(table.is_empty());
+    /// # Ok(())
+    /// # }
     /// ```
     ///
     /// # Proved

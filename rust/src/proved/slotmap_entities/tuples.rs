@@ -48,11 +48,18 @@ use crate::rt::std::alloc::Global;
 /// }
 /// ```
 ///
-/// ```ignore
+/// ```
+/// # use slotmap_proved::{DefaultKey, Global, Key};
+/// # use slotmap_proved::entities::{Apart, CloneKind, CloneTable, CloneTables, Kind, Table, Tables};
+/// # use slotmap_proved::fallible::{SecondaryMap, SparseSecondaryMap};
+/// # fn main() -> Result<(), Box<dyn std::error::Error>> {
+/// # let alloc = Global;
 /// let mut tables: (SecondaryMap<DefaultKey, u8>, (SparseSecondaryMap<DefaultKey, &str>, ())) =
 ///     Tables::new(alloc)?;
 /// let parts = Tables::remove(&mut tables, DefaultKey::null());
 /// assert_eq!(parts, (None, (None, ())));
+/// # Ok(())
+/// # }
 /// ```
 ///
 /// This trait is sealed: only types of this crate implement it.
@@ -70,9 +77,16 @@ pub trait Tables<K: Key>: crate::sealed::Tables<K> + Sized {
 
     /// Makes empty tables. It fails only if memory runs out.
     ///
-    /// ```ignore
+    /// ```
+    /// # use slotmap_proved::{DefaultKey, Global, Key};
+    /// # use slotmap_proved::entities::{Apart, CloneKind, CloneTable, CloneTables, Kind, Table, Tables};
+    /// # use slotmap_proved::fallible::SecondaryMap;
+    /// # fn main() -> Result<(), Box<dyn std::error::Error>> {
+    /// # let alloc = Global;
     /// let tables: (SecondaryMap<DefaultKey, u32>, ()) = Tables::new(alloc)?;
     /// assert!(tables.0.is_empty());
+    /// # Ok(())
+    /// # }
     /// ```
     ///
     /// # Proved
@@ -81,16 +95,25 @@ pub trait Tables<K: Key>: crate::sealed::Tables<K> + Sized {
     /// ensures empty { IfOk result (λ tables. (q : KeyOf) → has tables q ≡ false) }
     /// ensures err { IfErr result (λ error. error ≡ ReserveError.Memory) }
     /// ```
+    ///
+    /// Words: [`Key`](crate::words#key).
     fn new(alloc: Global) -> Result<Self, ReserveError>;
 
     /// Removes the components of an entity from all tables, and returns them.
     ///
-    /// ```ignore
+    /// ```
+    /// # use slotmap_proved::{DefaultKey, Global, Key, KeyData};
+    /// # use slotmap_proved::entities::{Apart, CloneKind, CloneTable, CloneTables, Kind, Table, Tables};
+    /// # use slotmap_proved::fallible::SecondaryMap;
+    /// # fn main() -> Result<(), Box<dyn std::error::Error>> {
+    /// # let alloc = Global;
     /// let hero = DefaultKey::from(KeyData::new(1, 1));
     /// let mut tables: (SecondaryMap<DefaultKey, u32>, ()) = Tables::new(alloc)?;
     /// tables.0.insert(hero, 7)?;
     /// assert_eq!(Tables::remove(&mut tables, hero), (Some(7), ()));
     /// assert!(tables.0.is_empty());
+    /// # Ok(())
+    /// # }
     /// ```
     ///
     /// # Proved
@@ -101,16 +124,25 @@ pub trait Tables<K: Key>: crate::sealed::Tables<K> + Sized {
     /// ensures others { (q : KeyOf) → q ≢ K.data_of key → (has self.new q ≡ has self.old q) × (parts self.new q ≡ parts self.old q) }
     /// ensures room { keeps_room self.old self.new }
     /// ```
+    ///
+    /// Words: [`Key`](crate::words#key).
     fn remove(&mut self, key: K) -> Self::Parts;
 
     /// Removes all components of all entities. Each table has room for as many in all as before.
     ///
-    /// ```ignore
+    /// ```
+    /// # use slotmap_proved::{DefaultKey, Global, Key, KeyData};
+    /// # use slotmap_proved::entities::{Apart, CloneKind, CloneTable, CloneTables, Kind, Table, Tables};
+    /// # use slotmap_proved::fallible::SecondaryMap;
+    /// # fn main() -> Result<(), Box<dyn std::error::Error>> {
+    /// # let alloc = Global;
     /// let hero = DefaultKey::from(KeyData::new(1, 1));
     /// let mut tables: (SecondaryMap<DefaultKey, u32>, ()) = Tables::new(alloc)?;
     /// tables.0.insert(hero, 7)?;
     /// Tables::clear(&mut tables);
     /// assert!(tables.0.is_empty());
+    /// # Ok(())
+    /// # }
     /// ```
     ///
     /// # Proved
@@ -120,6 +152,8 @@ pub trait Tables<K: Key>: crate::sealed::Tables<K> + Sized {
     /// ensures room { keeps_room self.old self.new }
     /// ensures gives_back { gives_back self.old self.new }
     /// ```
+    ///
+    /// Words: [`Key`](crate::words#key).
     fn clear(&mut self);
 
     // An entity without components has nothing in each of them.

@@ -44,10 +44,16 @@ impl<K: Key, N, E> Graph<K, N, E> {
     /// If a slot is vacant or room was reserved, the call can't fail, and the capacity stays. If the
     /// call fails, the error holds the value, and the graph has the same nodes and edges.
     ///
-    /// ```ignore
+    /// ```
+    /// # use slotmap_proved::{Global, graph, Key, NodeKey};
+    /// # use slotmap_proved::graph::Graph;
+    /// # fn main() -> Result<(), Box<dyn std::error::Error>> {
+    /// # let alloc = Global;
     /// let mut graph: Graph<NodeKey, &str, u64> = Graph::new(alloc)?;
     /// let a = graph.add_node("a")?;
     /// assert_eq!(graph.node(a), Some(&"a"));
+    /// # Ok(())
+    /// # }
     /// ```
     ///
     /// # Proved
@@ -63,6 +69,7 @@ impl<K: Key, N, E> Graph<K, N, E> {
     /// ensures into { SameEdges self.old.into self.new.into }
     /// ensures none_out { IfOk result (λ key. edges_at self.new.out (K.data_of key) ≡ []) }
     /// ensures none_into { IfOk result (λ key. edges_at self.new.into (K.data_of key) ≡ []) }
+    ///
     /// // Why the call failed, and what that leaves.
     /// ensures err { IfErr result (Refuses self.old.nodes node) }
     /// ensures reuses { HasVacant self.old.nodes → IsOk result }
@@ -72,6 +79,8 @@ impl<K: Key, N, E> Graph<K, N, E> {
     /// ensures same_links { 0 < self.old.nodes.room → self.new.links ≡ self.old.links }
     /// ensures unchanged { OnErr result (Keeps self.old.nodes self.new.nodes) }
     /// ```
+    ///
+    /// Words: [`capacity`](crate::words#capacity-of-slotmap_core-content), [`edges`](crate::words#edges-of-slotmap_graph-parts), [`edges_at`](crate::words#edges_at), [`HasVacant`](crate::words#hasvacant), [`Inserts`](crate::words#inserts), [`into`](crate::words#into), [`IsSpent`](crate::words#isspent), [`Keeps`](crate::words#keeps), [`KeepsSpent`](crate::words#keepsspent), [`links`](crate::words#links-of-slotmap_graph-parts), [`live`](crate::words#live), [`nodes`](crate::words#nodes-of-slotmap_graph-parts), [`out`](crate::words#out), [`Refuses`](crate::words#refuses), [`room`](crate::words#room-of-slotmap_core-content), [`SameEdges`](crate::words#sameedges), [`space`](crate::words#space).
     #[inline]
     pub fn add_node(&mut self, node: N) -> Result<K, InsertError<N>> {
         if !self.has_node_room() {
@@ -91,7 +100,11 @@ impl<K: Key, N, E> Graph<K, N, E> {
     /// reserved, it fails for no other reason, and the capacity stays. If it fails, the error holds the
     /// value, and the graph has the same nodes and edges.
     ///
-    /// ```ignore
+    /// ```
+    /// # use slotmap_proved::{Global, graph, Key, NodeKey};
+    /// # use slotmap_proved::graph::{EdgeError, Graph};
+    /// # fn main() -> Result<(), Box<dyn std::error::Error>> {
+    /// # let alloc = Global;
     /// let mut graph: Graph<NodeKey, &str, u64> = Graph::new(alloc)?;
     /// let a = graph.add_node("a")?;
     /// let b = graph.add_node("b")?;
@@ -99,6 +112,8 @@ impl<K: Key, N, E> Graph<K, N, E> {
     /// assert_eq!(graph.edges_to(b).next(), Some(edge));
     /// graph.remove_node(b);
     /// assert!(matches!(graph.add_edge(a, b, 6), Err(EdgeError::Gone(6))));
+    /// # Ok(())
+    /// # }
     /// ```
     ///
     /// # Proved
@@ -111,6 +126,7 @@ impl<K: Key, N, E> Graph<K, N, E> {
     /// ensures live { OnOk result (IsLive self.old.nodes (K.data_of from) × IsLive self.old.nodes (K.data_of to)) }
     /// ensures out { IfOk result (λ key. PutsBehind self.old.out (K.data_of from) key self.new.out) }
     /// ensures into { IfOk result (λ key. PutsBehind self.old.into (K.data_of to) key self.new.into) }
+    ///
     /// // Why the call failed, and what that leaves.
     /// ensures err { IfErr result (RefusesEdge self.old.nodes self.old.edges (K.data_of from) (K.data_of to) edge) }
     /// ensures reuses { IsLive self.old.nodes (K.data_of from) → IsLive self.old.nodes (K.data_of to) → HasVacant self.old.edges → IsOk result }
@@ -119,10 +135,13 @@ impl<K: Key, N, E> Graph<K, N, E> {
     /// ensures in_place { 0 < self.old.edges.room → space self.new.edges ≡ space self.old.edges }
     /// ensures same_links { 0 < self.old.edges.room → self.new.links ≡ self.old.links }
     /// ensures unchanged { OnErr result (Keeps self.old.edges self.new.edges × SameEdges self.old.out self.new.out × SameEdges self.old.into self.new.into) }
+    ///
     /// // All else is as before.
     /// ensures nodes { self.new.nodes ≡ self.old.nodes }
     /// ensures gone { KeepsSpent self.old.edges self.new.edges }
     /// ```
+    ///
+    /// Words: [`capacity`](crate::words#capacity-of-slotmap_core-content), [`edges`](crate::words#edges-of-slotmap_graph-parts), [`HasVacant`](crate::words#hasvacant), [`Inserts`](crate::words#inserts), [`into`](crate::words#into), [`IsLive`](crate::words#islive), [`IsSpent`](crate::words#isspent), [`Keeps`](crate::words#keeps), [`KeepsSpent`](crate::words#keepsspent), [`links`](crate::words#links-of-slotmap_graph-parts), [`live`](crate::words#live), [`nodes`](crate::words#nodes-of-slotmap_graph-parts), [`out`](crate::words#out), [`PutsBehind`](crate::words#putsbehind), [`RefusesEdge`](crate::words#refusesedge), [`room`](crate::words#room-of-slotmap_core-content), [`SameEdges`](crate::words#sameedges), [`space`](crate::words#space), [`value`](crate::words#value-of-slotmap_graph-parts).
     #[inline]
     pub fn add_edge(&mut self, from: K, to: K, edge: E) -> Result<EdgeKey, EdgeError<E>> {
         if !self.contains_node(from) || !self.contains_node(to) {
@@ -142,12 +161,18 @@ impl<K: Key, N, E> Graph<K, N, E> {
     /// the call returns `None` and changes nothing. No room is lost, and the capacity stays. Constant
     /// time.
     ///
-    /// ```ignore
+    /// ```
+    /// # use slotmap_proved::{Global, graph, Key, NodeKey};
+    /// # use slotmap_proved::graph::Graph;
+    /// # fn main() -> Result<(), Box<dyn std::error::Error>> {
+    /// # let alloc = Global;
     /// let mut graph: Graph<NodeKey, &str, u64> = Graph::new(alloc)?;
     /// let a = graph.add_node("a")?;
     /// let edge = graph.add_edge(a, a, 5)?;
     /// assert_eq!(graph.remove_edge(edge), Some(5));
     /// assert_eq!(graph.remove_edge(edge), None);
+    /// # Ok(())
+    /// # }
     /// ```
     ///
     /// # Proved
@@ -167,6 +192,8 @@ impl<K: Key, N, E> Graph<K, N, E> {
     /// ensures gone { KeepsSpent self.old.edges self.new.edges }
     /// ensures stale { IfNone result (self.new ≡ self.old) }
     /// ```
+    ///
+    /// Words: [`edges`](crate::words#edges-of-slotmap_graph-parts), [`edges_at`](crate::words#edges_at), [`into`](crate::words#into), [`IsSpent`](crate::words#isspent), [`KeepsSpent`](crate::words#keepsspent), [`Key`](crate::words#key), [`Leaves`](crate::words#leaves), [`links`](crate::words#links-of-slotmap_graph-parts), [`live`](crate::words#live), [`nodes`](crate::words#nodes-of-slotmap_graph-parts), [`out`](crate::words#out), [`Removes`](crate::words#removes), [`space`](crate::words#space), [`value`](crate::words#value-of-slotmap_graph-parts), [`without`](crate::words#without-of-slotmap_bounded-keylists).
     #[inline]
     pub fn remove_edge(&mut self, edge: EdgeKey) -> Option<E> {
         let removed = self.edges.remove(edge)?;
@@ -190,18 +217,25 @@ impl<K: Key, N, E> Graph<K, N, E> {
     /// is lost, and the capacity stays. A node that doesn't exist has no edges, so nothing changes. It
     /// takes time linear in the number of these edges.
     ///
-    /// ```ignore
+    /// ```
+    /// # use slotmap_proved::{Global, graph, Key, NodeKey};
+    /// # use slotmap_proved::graph::Graph;
+    /// # fn main() -> Result<(), Box<dyn std::error::Error>> {
+    /// # let alloc = Global;
     /// let mut graph: Graph<NodeKey, &str, u64> = Graph::new(alloc)?;
     /// let a = graph.add_node("a")?;
     /// graph.add_edge(a, a, 5)?;
     /// graph.remove_edges_of(a);
     /// assert_eq!(graph.edge_count(), 0);
+    /// # Ok(())
+    /// # }
     /// ```
     ///
     /// # Proved
     ///
     /// ```text
-    /// ensures edges { (k : KeyOf) → map.get self.new.edges.live k ≡ option_and_then (λ e. cond (avoids (K.data_of node) e) (Some e) None) (map.get self.old.edges.live k) }
+    /// ensures edges { (k : KeyOf) → map.get self.new.edges.live k ≡ option_and_then
+    ///     (λ e. cond (avoids (K.data_of node) e) (Some e) None) (map.get self.old.edges.live k) }
     /// ensures for_good { (k : KeyOf) (e : SeenEdge E) → map.get self.old.edges.live k ≡ Some e → touches (K.data_of node) e ≡ true → IsSpent self.new.edges k }
     /// ensures leaves { Leaves self.old.edges self.new.edges }
     /// ensures capacity { space self.new.edges ≡ space self.old.edges }
@@ -214,6 +248,8 @@ impl<K: Key, N, E> Graph<K, N, E> {
     /// ensures gone { KeepsSpent self.old.edges self.new.edges }
     /// ensures stale { map.contains_key self.old.nodes.live (K.data_of node) ≡ false → self.new ≡ self.old }
     /// ```
+    ///
+    /// Words: [`avoids`](crate::words#avoids), [`edges`](crate::words#edges-of-slotmap_graph-parts), [`edges_at`](crate::words#edges_at), [`into`](crate::words#into), [`IsSpent`](crate::words#isspent), [`KeepsSpent`](crate::words#keepsspent), [`Key`](crate::words#key), [`Leaves`](crate::words#leaves), [`links`](crate::words#links-of-slotmap_graph-parts), [`live`](crate::words#live), [`nodes`](crate::words#nodes-of-slotmap_graph-parts), [`out`](crate::words#out), [`SeenEdge`](crate::words#seenedge), [`space`](crate::words#space), [`touches`](crate::words#touches).
     #[inline]
     pub fn remove_edges_of(&mut self, node: K) {
         while let Some(edge) = self.edge_at(node) {
@@ -226,13 +262,19 @@ impl<K: Key, N, E> Graph<K, N, E> {
     /// `None` and changes nothing. No room is lost, and the capacities stay. It takes time linear in the
     /// number of its edges.
     ///
-    /// ```ignore
+    /// ```
+    /// # use slotmap_proved::{Global, graph, Key, NodeKey};
+    /// # use slotmap_proved::graph::Graph;
+    /// # fn main() -> Result<(), Box<dyn std::error::Error>> {
+    /// # let alloc = Global;
     /// let mut graph: Graph<NodeKey, &str, u64> = Graph::new(alloc)?;
     /// let a = graph.add_node("a")?;
     /// let b = graph.add_node("b")?;
     /// graph.add_edge(a, b, 5)?;
     /// assert_eq!(graph.remove_node(b), Some("b"));
     /// assert_eq!(graph.edge_count(), 0);
+    /// # Ok(())
+    /// # }
     /// ```
     ///
     /// # Proved
@@ -247,8 +289,10 @@ impl<K: Key, N, E> Graph<K, N, E> {
     /// ensures leaves { Leaves self.old.nodes self.new.nodes }
     /// ensures capacity { space self.new.nodes ≡ space self.old.nodes }
     /// ensures gone { KeepsSpent self.old.nodes self.new.nodes }
+    ///
     /// // Its edges are gone, and no others.
-    /// ensures edges { (k : KeyOf) → map.get self.new.edges.live k ≡ option_and_then (λ e. cond (avoids (K.data_of node) e) (Some e) None) (map.get self.old.edges.live k) }
+    /// ensures edges { (k : KeyOf) → map.get self.new.edges.live k ≡ option_and_then
+    ///     (λ e. cond (avoids (K.data_of node) e) (Some e) None) (map.get self.old.edges.live k) }
     /// ensures edges_for_good { (k : KeyOf) (e : SeenEdge E) → map.get self.old.edges.live k ≡ Some e → touches (K.data_of node) e ≡ true → IsSpent self.new.edges k }
     /// ensures edges_leave { Leaves self.old.edges self.new.edges }
     /// ensures edges_capacity { space self.new.edges ≡ space self.old.edges }
@@ -256,9 +300,12 @@ impl<K: Key, N, E> Graph<K, N, E> {
     /// ensures edges_gone { KeepsSpent self.old.edges self.new.edges }
     /// ensures out { (k : KeyOf) → edges_at self.new.out k ≡ filter (map.contains_key self.new.edges.live) (edges_at self.old.out k) }
     /// ensures into { (k : KeyOf) → edges_at self.new.into k ≡ filter (map.contains_key self.new.edges.live) (edges_at self.old.into k) }
+    ///
     /// // If there is no such node, nothing changes.
     /// ensures stale { IfNone result (self.new ≡ self.old) }
     /// ```
+    ///
+    /// Words: [`avoids`](crate::words#avoids), [`edges`](crate::words#edges-of-slotmap_graph-parts), [`edges_at`](crate::words#edges_at), [`into`](crate::words#into), [`IsSpent`](crate::words#isspent), [`KeepsSpent`](crate::words#keepsspent), [`Key`](crate::words#key), [`Leaves`](crate::words#leaves), [`links`](crate::words#links-of-slotmap_graph-parts), [`live`](crate::words#live), [`nodes`](crate::words#nodes-of-slotmap_graph-parts), [`out`](crate::words#out), [`Removes`](crate::words#removes), [`SeenEdge`](crate::words#seenedge), [`space`](crate::words#space), [`touches`](crate::words#touches), [`value`](crate::words#value-of-slotmap_graph-parts).
     #[inline]
     pub fn remove_node(&mut self, node: K) -> Option<N> {
         // by the contract of `node_count`, each edge joins two nodes that exist
@@ -276,11 +323,17 @@ impl<K: Key, N, E> Graph<K, N, E> {
     /// It takes time linear in the number of slots that have had a node or an edge. It also resets the ends
     /// of the lists of each node that there is room for, 24 bytes a node.
     ///
-    /// ```ignore
+    /// ```
+    /// # use slotmap_proved::{Global, graph, Key, NodeKey};
+    /// # use slotmap_proved::graph::Graph;
+    /// # fn main() -> Result<(), Box<dyn std::error::Error>> {
+    /// # let alloc = Global;
     /// let mut graph: Graph<NodeKey, &str, u64> = Graph::new(alloc)?;
     /// let a = graph.add_node("a")?;
     /// graph.clear();
     /// assert!(!graph.contains_node(a));
+    /// # Ok(())
+    /// # }
     /// ```
     ///
     /// # Proved
@@ -300,6 +353,8 @@ impl<K: Key, N, E> Graph<K, N, E> {
     /// ensures out { (k : KeyOf) → edges_at self.new.out k ≡ [] }
     /// ensures into { (k : KeyOf) → edges_at self.new.into k ≡ [] }
     /// ```
+    ///
+    /// Words: [`edges`](crate::words#edges-of-slotmap_graph-parts), [`edges_at`](crate::words#edges_at), [`into`](crate::words#into), [`IsLive`](crate::words#islive), [`IsSpent`](crate::words#isspent), [`KeepsSpent`](crate::words#keepsspent), [`Key`](crate::words#key), [`Leaves`](crate::words#leaves), [`links`](crate::words#links-of-slotmap_graph-parts), [`live`](crate::words#live), [`nodes`](crate::words#nodes-of-slotmap_graph-parts), [`out`](crate::words#out), [`space`](crate::words#space).
     #[inline]
     pub fn clear(&mut self) {
         self.nodes.clear();

@@ -24,13 +24,19 @@ impl<K: Key, N: Clone, E: Clone> Graph<K, N, E> {
     /// value fails, the call fails, and what was copied is dropped. It takes time linear in the two
     /// capacities.
     ///
-    /// ```ignore
+    /// ```
+    /// # use slotmap_proved::{Global, graph, Key, NodeKey};
+    /// # use slotmap_proved::graph::Graph;
+    /// # fn main() -> Result<(), Box<dyn std::error::Error>> {
+    /// # let alloc = Global;
     /// let mut graph: Graph<NodeKey, &str, u64> = Graph::new(alloc)?;
     /// let a = graph.add_node("a")?;
     /// let edge = graph.add_edge(a, a, 5)?;
     /// let copy = graph.clone()?;
     /// graph.remove_node(a);
     /// assert_eq!(copy.edges_from(a).next(), Some(edge));
+    /// # Ok(())
+    /// # }
     /// ```
     ///
     /// # Proved
@@ -44,10 +50,13 @@ impl<K: Key, N: Clone, E: Clone> Graph<K, N, E> {
     /// ensures nodes_room { IfOk result (λ copy. copy.nodes.room ≡ self.now.nodes.room) }
     /// ensures edges_capacity { IfOk result (λ copy. bound copy.edges ≡ bound self.now.edges) }
     /// ensures edges_room { IfOk result (λ copy. copy.edges.room ≡ self.now.edges.room) }
+    ///
     /// // Where clones equal their values, so do the nodes and the edges.
     /// ensures same_nodes { IfOk result (λ copy. ClonesEqual N.is_clone → IsCopy self.now.nodes copy.nodes) }
     /// ensures same_edges { IfOk result (λ copy. ClonesEqual E.is_clone → IsCopy self.now.edges copy.edges) }
     /// ```
+    ///
+    /// Words: [`bound`](crate::words#bound), [`clones_edge`](crate::words#clones_edge), [`ClonesEqual`](crate::words#clonesequal), [`edges`](crate::words#edges-of-slotmap_graph-parts), [`into`](crate::words#into), [`IsCloneBy`](crate::words#iscloneby), [`IsCopy`](crate::words#iscopy), [`nodes`](crate::words#nodes-of-slotmap_graph-parts), [`out`](crate::words#out), [`room`](crate::words#room-of-slotmap_core-content), [`SameEdges`](crate::words#sameedges).
     #[inline]
     pub fn clone(&self) -> Result<Self, AllocError> {
         let nodes = self.nodes.clone()?;

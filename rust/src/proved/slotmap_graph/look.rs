@@ -12,12 +12,18 @@ use crate::proved::slotmap_bounded::outer;
 impl<K: Key, N, E> Graph<K, N, E> {
     /// Returns the value of a node, or `None` if the node doesn't exist, in constant time.
     ///
-    /// ```ignore
+    /// ```
+    /// # use slotmap_proved::{Global, graph, Key, NodeKey};
+    /// # use slotmap_proved::graph::Graph;
+    /// # fn main() -> Result<(), Box<dyn std::error::Error>> {
+    /// # let alloc = Global;
     /// let mut graph: Graph<NodeKey, &str, u64> = Graph::new(alloc)?;
     /// let a = graph.add_node("a")?;
     /// assert_eq!(graph.node(a), Some(&"a"));
     /// graph.remove_node(a);
     /// assert_eq!(graph.node(a), None);
+    /// # Ok(())
+    /// # }
     /// ```
     ///
     /// # Proved
@@ -25,6 +31,8 @@ impl<K: Key, N, E> Graph<K, N, E> {
     /// ```text
     /// ensures { option_copied result ≡ map.get self.now.nodes.live (K.data_of node) }
     /// ```
+    ///
+    /// Words: [`live`](crate::words#live), [`nodes`](crate::words#nodes-of-slotmap_graph-parts).
     #[inline]
     pub fn node(&self, node: K) -> Option<&N> {
         self.nodes.get(node)
@@ -33,13 +41,19 @@ impl<K: Key, N, E> Graph<K, N, E> {
     /// Returns a mutable reference to the value of a node, or `None` if the node doesn't exist, in
     /// constant time.
     ///
-    /// ```ignore
+    /// ```
+    /// # use slotmap_proved::{Global, graph, Key, NodeKey};
+    /// # use slotmap_proved::graph::Graph;
+    /// # fn main() -> Result<(), Box<dyn std::error::Error>> {
+    /// # let alloc = Global;
     /// let mut graph: Graph<NodeKey, u64, u64> = Graph::new(alloc)?;
     /// let a = graph.add_node(1)?;
     /// if let Some(value) = graph.node_mut(a) {
     ///     *value = 2;
     /// }
     /// assert_eq!(graph.node(a), Some(&2));
+    /// # Ok(())
+    /// # }
     /// ```
     ///
     /// # Proved
@@ -48,6 +62,8 @@ impl<K: Key, N, E> Graph<K, N, E> {
     /// ensures* writes_back { sem 𝓛 (lends_node K.row N.row E.row self.entry (K.data_of node) result) }
     /// ensures value { option_copied_mut result ≡ map.get self.old.nodes.live (K.data_of node) }
     /// ```
+    ///
+    /// Words: [`lends_node`](crate::words#lends_node), [`live`](crate::words#live), [`nodes`](crate::words#nodes-of-slotmap_graph-parts), [`value`](crate::words#value-of-slotmap_graph-parts).
     #[inline]
     pub fn node_mut(&mut self, node: K) -> Option<&mut N> {
         match self.nodes.get_mut(node) {
@@ -58,13 +74,19 @@ impl<K: Key, N, E> Graph<K, N, E> {
 
     /// Returns the value of an edge, or `None` if the edge doesn't exist, in constant time.
     ///
-    /// ```ignore
+    /// ```
+    /// # use slotmap_proved::{Global, graph, Key, NodeKey};
+    /// # use slotmap_proved::graph::Graph;
+    /// # fn main() -> Result<(), Box<dyn std::error::Error>> {
+    /// # let alloc = Global;
     /// let mut graph: Graph<NodeKey, &str, u64> = Graph::new(alloc)?;
     /// let a = graph.add_node("a")?;
     /// let edge = graph.add_edge(a, a, 5)?;
     /// assert_eq!(graph.edge(edge), Some(&5));
     /// graph.remove_edge(edge);
     /// assert_eq!(graph.edge(edge), None);
+    /// # Ok(())
+    /// # }
     /// ```
     ///
     /// # Proved
@@ -72,6 +94,8 @@ impl<K: Key, N, E> Graph<K, N, E> {
     /// ```text
     /// ensures { option_copied result ≡ option_map value (map.get self.now.edges.live edge) }
     /// ```
+    ///
+    /// Words: [`edges`](crate::words#edges-of-slotmap_graph-parts), [`live`](crate::words#live), [`value`](crate::words#value-of-slotmap_graph-parts).
     #[inline]
     pub fn edge(&self, edge: EdgeKey) -> Option<&E> {
         Some(self.edges.get(edge)?.value())
@@ -80,7 +104,11 @@ impl<K: Key, N, E> Graph<K, N, E> {
     /// Returns a mutable reference to the value of an edge, or `None` if the edge doesn't exist, in
     /// constant time.
     ///
-    /// ```ignore
+    /// ```
+    /// # use slotmap_proved::{Global, graph, Key, NodeKey};
+    /// # use slotmap_proved::graph::Graph;
+    /// # fn main() -> Result<(), Box<dyn std::error::Error>> {
+    /// # let alloc = Global;
     /// let mut graph: Graph<NodeKey, u64, u64> = Graph::new(alloc)?;
     /// let a = graph.add_node(1)?;
     /// let edge = graph.add_edge(a, a, 5)?;
@@ -88,6 +116,8 @@ impl<K: Key, N, E> Graph<K, N, E> {
     ///     *value = 6;
     /// }
     /// assert_eq!(graph.edge(edge), Some(&6));
+    /// # Ok(())
+    /// # }
     /// ```
     ///
     /// # Proved
@@ -96,6 +126,8 @@ impl<K: Key, N, E> Graph<K, N, E> {
     /// ensures* writes_back { sem 𝓛 (lends_edge K.row N.row E.row self.entry edge result) }
     /// ensures value { option_copied_mut result ≡ option_map value (map.get self.old.edges.live edge) }
     /// ```
+    ///
+    /// Words: [`edges`](crate::words#edges-of-slotmap_graph-parts), [`lends_edge`](crate::words#lends_edge), [`live`](crate::words#live), [`value`](crate::words#value-of-slotmap_graph-parts).
     #[inline]
     pub fn edge_mut(&mut self, edge: EdgeKey) -> Option<&mut E> {
         match self.edges.get_mut(edge) {
@@ -108,12 +140,18 @@ impl<K: Key, N, E> Graph<K, N, E> {
     /// constant time. Both nodes exist. If the compiler inlines this call, a look-up of one of them
     /// right after it needs no test.
     ///
-    /// ```ignore
+    /// ```
+    /// # use slotmap_proved::{Global, graph, Key, NodeKey};
+    /// # use slotmap_proved::graph::Graph;
+    /// # fn main() -> Result<(), Box<dyn std::error::Error>> {
+    /// # let alloc = Global;
     /// let mut graph: Graph<NodeKey, &str, u64> = Graph::new(alloc)?;
     /// let a = graph.add_node("a")?;
     /// let b = graph.add_node("b")?;
     /// let edge = graph.add_edge(a, b, 5)?;
     /// assert_eq!(graph.edge_ends(edge), Some((a, b)));
+    /// # Ok(())
+    /// # }
     /// ```
     ///
     /// # Proved
@@ -122,6 +160,8 @@ impl<K: Key, N, E> Graph<K, N, E> {
     /// ensures ends { option_map (both K.data_of) result ≡ option_map ends (map.get self.now.edges.live edge) }
     /// ensures live { IfSome result (λ ends. IsLive self.now.nodes (K.data_of ends.0) × IsLive self.now.nodes (K.data_of ends.1)) }
     /// ```
+    ///
+    /// Words: [`both`](crate::words#both), [`edges`](crate::words#edges-of-slotmap_graph-parts), [`ends`](crate::words#ends), [`IsLive`](crate::words#islive), [`live`](crate::words#live), [`nodes`](crate::words#nodes-of-slotmap_graph-parts).
     #[inline]
     pub fn edge_ends(&self, edge: EdgeKey) -> Option<(K, K)> {
         let (from, to) = self.edges.get(edge)?.ends();
@@ -137,7 +177,11 @@ impl<K: Key, N, E> Graph<K, N, E> {
     ///
     /// Constant time. A node that doesn't exist has none.
     ///
-    /// ```ignore
+    /// ```
+    /// # use slotmap_proved::{Global, graph, Key, NodeKey};
+    /// # use slotmap_proved::graph::Graph;
+    /// # fn main() -> Result<(), Box<dyn std::error::Error>> {
+    /// # let alloc = Global;
     /// let mut graph: Graph<NodeKey, &str, u64> = Graph::new(alloc)?;
     /// let a = graph.add_node("a")?;
     /// let first = graph.add_edge(a, a, 5)?;
@@ -146,6 +190,8 @@ impl<K: Key, N, E> Graph<K, N, E> {
     /// assert_eq!(edges.next(), Some(first));
     /// assert_eq!(edges.next(), Some(second));
     /// assert_eq!(edges.next(), None);
+    /// # Ok(())
+    /// # }
     /// ```
     ///
     /// # Proved
@@ -154,6 +200,8 @@ impl<K: Key, N, E> Graph<K, N, E> {
     /// ensures in_order { result ≡ edges_at self.now.out (K.data_of node) }
     /// ensures listed { ListsEdges from self.now.edges.live (K.data_of node) result }
     /// ```
+    ///
+    /// Words: [`edges`](crate::words#edges-of-slotmap_graph-parts), [`edges_at`](crate::words#edges_at), [`from`](crate::words#from), [`ListsEdges`](crate::words#listsedges), [`live`](crate::words#live), [`out`](crate::words#out).
     #[inline]
     pub fn edges_from(&self, node: K) -> EdgesAt<'_, E> {
         edges_of(&self.nodes, &self.edges, &self.out, node)
@@ -164,13 +212,19 @@ impl<K: Key, N, E> Graph<K, N, E> {
     ///
     /// Constant time. A node that doesn't exist has none.
     ///
-    /// ```ignore
+    /// ```
+    /// # use slotmap_proved::{Global, graph, Key, NodeKey};
+    /// # use slotmap_proved::graph::Graph;
+    /// # fn main() -> Result<(), Box<dyn std::error::Error>> {
+    /// # let alloc = Global;
     /// let mut graph: Graph<NodeKey, &str, u64> = Graph::new(alloc)?;
     /// let a = graph.add_node("a")?;
     /// let b = graph.add_node("b")?;
     /// let edge = graph.add_edge(a, b, 5)?;
     /// assert_eq!(graph.edges_to(b).next(), Some(edge));
     /// assert_eq!(graph.edges_to(a).len(), 0);
+    /// # Ok(())
+    /// # }
     /// ```
     ///
     /// # Proved
@@ -179,6 +233,8 @@ impl<K: Key, N, E> Graph<K, N, E> {
     /// ensures in_order { result ≡ edges_at self.now.into (K.data_of node) }
     /// ensures listed { ListsEdges to self.now.edges.live (K.data_of node) result }
     /// ```
+    ///
+    /// Words: [`edges`](crate::words#edges-of-slotmap_graph-parts), [`edges_at`](crate::words#edges_at), [`into`](crate::words#into), [`ListsEdges`](crate::words#listsedges), [`live`](crate::words#live), [`to`](crate::words#to).
     #[inline]
     pub fn edges_to(&self, node: K) -> EdgesAt<'_, E> {
         edges_of(&self.nodes, &self.edges, &self.into, node)
@@ -186,13 +242,19 @@ impl<K: Key, N, E> Graph<K, N, E> {
 
     /// Returns how many edges go out of a node, in constant time: 0 if the node doesn't exist.
     ///
-    /// ```ignore
+    /// ```
+    /// # use slotmap_proved::{Global, graph, Key, NodeKey};
+    /// # use slotmap_proved::graph::Graph;
+    /// # fn main() -> Result<(), Box<dyn std::error::Error>> {
+    /// # let alloc = Global;
     /// let mut graph: Graph<NodeKey, &str, u64> = Graph::new(alloc)?;
     /// let a = graph.add_node("a")?;
     /// let b = graph.add_node("b")?;
     /// graph.add_edge(a, b, 5)?;
     /// assert_eq!(graph.out_degree(a), 1);
     /// assert_eq!(graph.out_degree(b), 0);
+    /// # Ok(())
+    /// # }
     /// ```
     ///
     /// # Proved
@@ -200,6 +262,8 @@ impl<K: Key, N, E> Graph<K, N, E> {
     /// ```text
     /// ensures { result ≡ length (edges_at self.now.out (K.data_of node)) }
     /// ```
+    ///
+    /// Words: [`edges_at`](crate::words#edges_at), [`out`](crate::words#out).
     #[inline]
     pub fn out_degree(&self, node: K) -> usize {
         self.edges_from(node).len()
@@ -207,13 +271,19 @@ impl<K: Key, N, E> Graph<K, N, E> {
 
     /// Returns how many edges come into a node, in constant time: 0 if the node doesn't exist.
     ///
-    /// ```ignore
+    /// ```
+    /// # use slotmap_proved::{Global, graph, Key, NodeKey};
+    /// # use slotmap_proved::graph::Graph;
+    /// # fn main() -> Result<(), Box<dyn std::error::Error>> {
+    /// # let alloc = Global;
     /// let mut graph: Graph<NodeKey, &str, u64> = Graph::new(alloc)?;
     /// let a = graph.add_node("a")?;
     /// let b = graph.add_node("b")?;
     /// graph.add_edge(a, b, 5)?;
     /// assert_eq!(graph.in_degree(b), 1);
     /// assert_eq!(graph.in_degree(a), 0);
+    /// # Ok(())
+    /// # }
     /// ```
     ///
     /// # Proved
@@ -221,6 +291,8 @@ impl<K: Key, N, E> Graph<K, N, E> {
     /// ```text
     /// ensures { result ≡ length (edges_at self.now.into (K.data_of node)) }
     /// ```
+    ///
+    /// Words: [`edges_at`](crate::words#edges_at), [`into`](crate::words#into).
     #[inline]
     pub fn in_degree(&self, node: K) -> usize {
         self.edges_to(node).len()

@@ -36,7 +36,11 @@
 //! The calls that make a graph, reserve room, add or copy may fail for memory, and so may those that
 //! take an `alloc`. Those that add need none where there is room, and those that remove need none.
 //!
-//! ```ignore
+//! ```
+//! # use slotmap_proved::{Global, graph, Key, NodeKey};
+//! # use slotmap_proved::graph::Graph;
+//! # fn main() -> Result<(), Box<dyn std::error::Error>> {
+//! # let alloc = Global;
 //! let mut graph: Graph<NodeKey, &str, u64> = Graph::new(alloc)?;
 //! let a = graph.add_node("a")?;
 //! let b = graph.add_node("b")?;
@@ -46,6 +50,8 @@
 //! graph.remove_node(b);
 //! assert!(graph.edge(edge).is_none());
 //! assert_eq!(graph.out_degree(a), 0);
+//! # Ok(())
+//! # }
 //! ```
 
 #[allow(unused_imports)]
@@ -111,9 +117,15 @@ impl<N, E> Graph<NodeKey, N, E> {
     ///
     /// It fails only if memory runs out.
     ///
-    /// ```ignore
+    /// ```
+    /// # use slotmap_proved::{Global, graph, Key, NodeKey};
+    /// # use slotmap_proved::graph::Graph;
+    /// # fn main() -> Result<(), Box<dyn std::error::Error>> {
+    /// # let alloc = Global;
     /// let graph: Graph<NodeKey, &str, u64> = Graph::new(alloc)?;
     /// assert!(graph.is_empty());
+    /// # Ok(())
+    /// # }
     /// ```
     ///
     /// # Proved
@@ -123,6 +135,8 @@ impl<N, E> Graph<NodeKey, N, E> {
     /// ensures edges { IfOk result (λ graph. IsNew graph.edges) }
     /// ensures err { IfErr result (λ error. error ≡ ReserveError.Memory) }
     /// ```
+    ///
+    /// Words: [`edges`](crate::words#edges-of-slotmap_graph-parts), [`IsNew`](crate::words#isnew), [`nodes`](crate::words#nodes-of-slotmap_graph-parts).
     #[inline]
     pub fn new(alloc: Global) -> Result<Self, ReserveError> {
         Graph::with_key(alloc)
@@ -134,9 +148,15 @@ impl<N, E> Graph<NodeKey, N, E> {
     /// It fails with `TooGreat` if one of the two is over 4294967294, and else with `Memory` if memory
     /// runs out. It takes time linear in `nodes` and `edges`.
     ///
-    /// ```ignore
+    /// ```
+    /// # use slotmap_proved::{Global, graph, Key, NodeKey};
+    /// # use slotmap_proved::graph::Graph;
+    /// # fn main() -> Result<(), Box<dyn std::error::Error>> {
+    /// # let alloc = Global;
     /// let mut graph: Graph<NodeKey, &str, u64> = Graph::with_capacity(alloc, 2, 4)?;
     /// assert!(graph.add_node("a").is_ok());
+    /// # Ok(())
+    /// # }
     /// ```
     ///
     /// # Proved
@@ -148,6 +168,8 @@ impl<N, E> Graph<NodeKey, N, E> {
     /// ensures edge_room { IfOk result (λ graph. edges ≤ graph.edges.room) }
     /// ensures err { IfErr result (RefusesEither nodes edges) }
     /// ```
+    ///
+    /// Words: [`edges`](crate::words#edges-of-slotmap_graph-parts), [`IsNew`](crate::words#isnew), [`nodes`](crate::words#nodes-of-slotmap_graph-parts), [`RefusesEither`](crate::words#refuseseither), [`room`](crate::words#room-of-slotmap_core-content).
     #[inline]
     pub fn with_capacity(alloc: Global, nodes: usize, edges: usize) -> Result<Self, ReserveError> {
         Graph::with_capacity_and_key(alloc, nodes, edges)
@@ -159,9 +181,15 @@ impl<K: Key, N, E> Graph<K, N, E> {
     ///
     /// It fails only if memory runs out.
     ///
-    /// ```ignore
+    /// ```
+    /// # use slotmap_proved::{DefaultKey, Global, graph, Key};
+    /// # use slotmap_proved::graph::Graph;
+    /// # fn main() -> Result<(), Box<dyn std::error::Error>> {
+    /// # let alloc = Global;
     /// let graph: Graph<DefaultKey, &str, u64> = Graph::with_key(alloc)?;
     /// assert!(graph.is_empty());
+    /// # Ok(())
+    /// # }
     /// ```
     ///
     /// # Proved
@@ -171,6 +199,8 @@ impl<K: Key, N, E> Graph<K, N, E> {
     /// ensures edges { IfOk result (λ graph. IsNew graph.edges) }
     /// ensures err { IfErr result (λ error. error ≡ ReserveError.Memory) }
     /// ```
+    ///
+    /// Words: [`edges`](crate::words#edges-of-slotmap_graph-parts), [`IsNew`](crate::words#isnew), [`nodes`](crate::words#nodes-of-slotmap_graph-parts).
     #[inline]
     pub fn with_key(alloc: Global) -> Result<Self, ReserveError> {
         Graph::with_capacity_and_key(alloc, 0, 0)
@@ -182,19 +212,15 @@ impl<K: Key, N, E> Graph<K, N, E> {
     /// It fails with `TooGreat` if one of the two is over 4294967294, and else with `Memory` if memory
     /// runs out. It takes time linear in `nodes` and `edges`.
     ///
-    /// ```ignore
+    /// ```
+    /// # use slotmap_proved::{DefaultKey, Global, graph, Key};
+    /// # use slotmap_proved::graph::Graph;
+    /// # fn main() -> Result<(), Box<dyn std::error::Error>> {
+    /// # let alloc = Global;
     /// let graph: Graph<DefaultKey, &str, u64> = Graph::with_capacity_and_key(alloc, 2, 4)?;
     /// assert_eq!(graph.node_count(), 0);
-    /// ```
-    ///
-    /// # Proved
-    ///
-    /// ```text
-    /// ensures nodes { IfOk result (λ graph. IsNew graph.nodes) }
-    /// ensures edges { IfOk result (λ graph. IsNew graph.edges) }
-    /// ensures node_room { IfOk result (λ graph. nodes ≤ graph.nodes.room) }
-    /// ensures edge_room { IfOk result (λ graph. edges ≤ graph.edges.room) }
-    /// ensures err { IfErr result (RefusesEither nodes edges) }
+    /// # Ok(())
+    /// # }
     /// ```
     #[inline]
     pub fn with_capacity_and_key(
@@ -224,10 +250,16 @@ impl<K: Key, N, E> Graph<K, N, E> {
     /// It fails with `TooGreat` if more than 4294967294 nodes would be there, counting those whose slots
     /// are retired, and with `Memory` if memory runs out. The graph has the same nodes then.
     ///
-    /// ```ignore
+    /// ```
+    /// # use slotmap_proved::{Global, graph, Key, NodeKey};
+    /// # use slotmap_proved::graph::Graph;
+    /// # fn main() -> Result<(), Box<dyn std::error::Error>> {
+    /// # let alloc = Global;
     /// let mut graph: Graph<NodeKey, &str, u64> = Graph::new(alloc)?;
     /// graph.reserve_nodes(2)?;
     /// assert!(graph.add_node("a").is_ok());
+    /// # Ok(())
+    /// # }
     /// ```
     ///
     /// # Proved
@@ -241,6 +273,8 @@ impl<K: Key, N, E> Graph<K, N, E> {
     /// ensures out { SameEdges self.old.out self.new.out }
     /// ensures into { SameEdges self.old.into self.new.into }
     /// ```
+    ///
+    /// Words: [`edges`](crate::words#edges-of-slotmap_graph-parts), [`into`](crate::words#into), [`MakesRoom`](crate::words#makesroom), [`next`](crate::words#next), [`nodes`](crate::words#nodes-of-slotmap_graph-parts), [`out`](crate::words#out), [`RefusesCapacity`](crate::words#refusescapacity), [`room`](crate::words#room-of-slotmap_core-content), [`SameEdges`](crate::words#sameedges), [`used`](crate::words#used).
     #[inline(never)]
     pub fn reserve_nodes(&mut self, additional: usize) -> Result<(), ReserveError> {
         let node = self.nodes.capacity_for(additional)?;
@@ -255,11 +289,17 @@ impl<K: Key, N, E> Graph<K, N, E> {
     /// It fails with `TooGreat` if more than 4294967294 edges would be there, counting those whose slots
     /// are retired, and with `Memory` if memory runs out. The graph has the same edges then.
     ///
-    /// ```ignore
+    /// ```
+    /// # use slotmap_proved::{Global, graph, Key, NodeKey};
+    /// # use slotmap_proved::graph::Graph;
+    /// # fn main() -> Result<(), Box<dyn std::error::Error>> {
+    /// # let alloc = Global;
     /// let mut graph: Graph<NodeKey, &str, u64> = Graph::new(alloc)?;
     /// graph.reserve_edges(2)?;
     /// let a = graph.add_node("a")?;
     /// assert!(graph.add_edge(a, a, 5).is_ok());
+    /// # Ok(())
+    /// # }
     /// ```
     ///
     /// # Proved
@@ -273,6 +313,8 @@ impl<K: Key, N, E> Graph<K, N, E> {
     /// ensures out { SameEdges self.old.out self.new.out }
     /// ensures into { SameEdges self.old.into self.new.into }
     /// ```
+    ///
+    /// Words: [`edges`](crate::words#edges-of-slotmap_graph-parts), [`into`](crate::words#into), [`MakesRoom`](crate::words#makesroom), [`next`](crate::words#next), [`nodes`](crate::words#nodes-of-slotmap_graph-parts), [`out`](crate::words#out), [`RefusesCapacity`](crate::words#refusescapacity), [`room`](crate::words#room-of-slotmap_core-content), [`SameEdges`](crate::words#sameedges), [`used`](crate::words#used).
     #[inline(never)]
     pub fn reserve_edges(&mut self, additional: usize) -> Result<(), ReserveError> {
         let edge = self.edges.capacity_for(additional)?;
@@ -283,9 +325,15 @@ impl<K: Key, N, E> Graph<K, N, E> {
     /// Returns how many nodes there can be before more room is made, in constant time. It counts the
     /// slots that are retired.
     ///
-    /// ```ignore
+    /// ```
+    /// # use slotmap_proved::{Global, graph, Key, NodeKey};
+    /// # use slotmap_proved::graph::Graph;
+    /// # fn main() -> Result<(), Box<dyn std::error::Error>> {
+    /// # let alloc = Global;
     /// let graph: Graph<NodeKey, &str, u64> = Graph::with_capacity_and_key(alloc, 2, 4)?;
     /// assert!(graph.node_capacity() >= 2);
+    /// # Ok(())
+    /// # }
     /// ```
     ///
     /// # Proved
@@ -295,6 +343,8 @@ impl<K: Key, N, E> Graph<K, N, E> {
     /// ensures exact { result ≡ used self.now.nodes + self.now.nodes.room }
     /// ensures valid { IsContent true self.now.nodes }
     /// ```
+    ///
+    /// Words: [`bound`](crate::words#bound), [`IsContent`](crate::words#iscontent), [`nodes`](crate::words#nodes-of-slotmap_graph-parts), [`room`](crate::words#room-of-slotmap_core-content), [`used`](crate::words#used).
     #[inline]
     pub fn node_capacity(&self) -> usize {
         self.nodes.capacity()
@@ -303,9 +353,15 @@ impl<K: Key, N, E> Graph<K, N, E> {
     /// Returns how many edges there can be before more room is made, in constant time. It counts the
     /// slots that are retired.
     ///
-    /// ```ignore
+    /// ```
+    /// # use slotmap_proved::{Global, graph, Key, NodeKey};
+    /// # use slotmap_proved::graph::Graph;
+    /// # fn main() -> Result<(), Box<dyn std::error::Error>> {
+    /// # let alloc = Global;
     /// let graph: Graph<NodeKey, &str, u64> = Graph::with_capacity_and_key(alloc, 2, 4)?;
     /// assert!(graph.edge_capacity() >= 4);
+    /// # Ok(())
+    /// # }
     /// ```
     ///
     /// # Proved
@@ -315,6 +371,8 @@ impl<K: Key, N, E> Graph<K, N, E> {
     /// ensures exact { result ≡ used self.now.edges + self.now.edges.room }
     /// ensures valid { IsContent true self.now.edges }
     /// ```
+    ///
+    /// Words: [`bound`](crate::words#bound), [`edges`](crate::words#edges-of-slotmap_graph-parts), [`IsContent`](crate::words#iscontent), [`room`](crate::words#room-of-slotmap_core-content), [`used`](crate::words#used).
     #[inline]
     pub fn edge_capacity(&self) -> usize {
         self.edges.capacity()
@@ -322,12 +380,18 @@ impl<K: Key, N, E> Graph<K, N, E> {
 
     /// Returns the number of nodes, in constant time.
     ///
-    /// ```ignore
+    /// ```
+    /// # use slotmap_proved::{Global, graph, Key, NodeKey};
+    /// # use slotmap_proved::graph::Graph;
+    /// # fn main() -> Result<(), Box<dyn std::error::Error>> {
+    /// # let alloc = Global;
     /// let mut graph: Graph<NodeKey, &str, u64> = Graph::new(alloc)?;
     /// let a = graph.add_node("a")?;
     /// assert_eq!(graph.node_count(), 1);
     /// graph.remove_node(a);
     /// assert_eq!(graph.node_count(), 0);
+    /// # Ok(())
+    /// # }
     /// ```
     ///
     /// # Proved
@@ -336,6 +400,8 @@ impl<K: Key, N, E> Graph<K, N, E> {
     /// ensures value { result ≡ map.len self.now.nodes.live }
     /// ensures joined { IsJoined self.now }
     /// ```
+    ///
+    /// Words: [`IsJoined`](crate::words#isjoined), [`live`](crate::words#live), [`nodes`](crate::words#nodes-of-slotmap_graph-parts).
     #[inline]
     pub fn node_count(&self) -> usize {
         self.nodes.len()
@@ -343,9 +409,15 @@ impl<K: Key, N, E> Graph<K, N, E> {
 
     /// Returns whether there is no node, and so no edge, in constant time.
     ///
-    /// ```ignore
+    /// ```
+    /// # use slotmap_proved::{Global, graph, Key, NodeKey};
+    /// # use slotmap_proved::graph::Graph;
+    /// # fn main() -> Result<(), Box<dyn std::error::Error>> {
+    /// # let alloc = Global;
     /// let graph: Graph<NodeKey, &str, u64> = Graph::new(alloc)?;
     /// assert!(graph.is_empty());
+    /// # Ok(())
+    /// # }
     /// ```
     ///
     /// # Proved
@@ -354,6 +426,8 @@ impl<K: Key, N, E> Graph<K, N, E> {
     /// ensures nodes { IsTrue result ↔ (map.len self.now.nodes.live ≡ 0) }
     /// ensures edges { IsTrue result → map.len self.now.edges.live ≡ 0 }
     /// ```
+    ///
+    /// Words: [`edges`](crate::words#edges-of-slotmap_graph-parts), [`live`](crate::words#live), [`nodes`](crate::words#nodes-of-slotmap_graph-parts).
     #[inline]
     pub fn is_empty(&self) -> bool {
         self.node_count() == 0
@@ -361,13 +435,19 @@ impl<K: Key, N, E> Graph<K, N, E> {
 
     /// Returns the number of edges, in constant time.
     ///
-    /// ```ignore
+    /// ```
+    /// # use slotmap_proved::{Global, graph, Key, NodeKey};
+    /// # use slotmap_proved::graph::Graph;
+    /// # fn main() -> Result<(), Box<dyn std::error::Error>> {
+    /// # let alloc = Global;
     /// let mut graph: Graph<NodeKey, &str, u64> = Graph::new(alloc)?;
     /// let a = graph.add_node("a")?;
     /// graph.add_edge(a, a, 5)?;
     /// assert_eq!(graph.edge_count(), 1);
     /// graph.remove_node(a);
     /// assert_eq!(graph.edge_count(), 0);
+    /// # Ok(())
+    /// # }
     /// ```
     ///
     /// # Proved
@@ -376,6 +456,8 @@ impl<K: Key, N, E> Graph<K, N, E> {
     /// ensures value { result ≡ map.len self.now.edges.live }
     /// ensures joined { IsJoined self.now }
     /// ```
+    ///
+    /// Words: [`edges`](crate::words#edges-of-slotmap_graph-parts), [`IsJoined`](crate::words#isjoined), [`live`](crate::words#live).
     #[inline]
     pub fn edge_count(&self) -> usize {
         self.edges.len()
@@ -383,12 +465,18 @@ impl<K: Key, N, E> Graph<K, N, E> {
 
     /// Returns whether a node exists, in constant time.
     ///
-    /// ```ignore
+    /// ```
+    /// # use slotmap_proved::{Global, graph, Key, NodeKey};
+    /// # use slotmap_proved::graph::Graph;
+    /// # fn main() -> Result<(), Box<dyn std::error::Error>> {
+    /// # let alloc = Global;
     /// let mut graph: Graph<NodeKey, &str, u64> = Graph::new(alloc)?;
     /// let a = graph.add_node("a")?;
     /// assert!(graph.contains_node(a));
     /// graph.remove_node(a);
     /// assert!(!graph.contains_node(a));
+    /// # Ok(())
+    /// # }
     /// ```
     ///
     /// # Proved
@@ -396,6 +484,8 @@ impl<K: Key, N, E> Graph<K, N, E> {
     /// ```text
     /// ensures { result ≡ map.contains_key self.now.nodes.live (K.data_of node) }
     /// ```
+    ///
+    /// Words: [`live`](crate::words#live), [`nodes`](crate::words#nodes-of-slotmap_graph-parts).
     #[inline]
     pub fn contains_node(&self, node: K) -> bool {
         self.nodes.contains_key(node)
@@ -403,13 +493,19 @@ impl<K: Key, N, E> Graph<K, N, E> {
 
     /// Returns whether an edge exists, in constant time.
     ///
-    /// ```ignore
+    /// ```
+    /// # use slotmap_proved::{Global, graph, Key, NodeKey};
+    /// # use slotmap_proved::graph::Graph;
+    /// # fn main() -> Result<(), Box<dyn std::error::Error>> {
+    /// # let alloc = Global;
     /// let mut graph: Graph<NodeKey, &str, u64> = Graph::new(alloc)?;
     /// let a = graph.add_node("a")?;
     /// let edge = graph.add_edge(a, a, 5)?;
     /// assert!(graph.contains_edge(edge));
     /// graph.remove_node(a);
     /// assert!(!graph.contains_edge(edge));
+    /// # Ok(())
+    /// # }
     /// ```
     ///
     /// # Proved
@@ -417,6 +513,8 @@ impl<K: Key, N, E> Graph<K, N, E> {
     /// ```text
     /// ensures { result ≡ map.contains_key self.now.edges.live edge }
     /// ```
+    ///
+    /// Words: [`edges`](crate::words#edges-of-slotmap_graph-parts), [`live`](crate::words#live).
     #[inline]
     pub fn contains_edge(&self, edge: EdgeKey) -> bool {
         self.edges.contains_key(edge)
@@ -426,7 +524,11 @@ impl<K: Key, N, E> Graph<K, N, E> {
     ///
     /// All its steps together read each slot once.
     ///
-    /// ```ignore
+    /// ```
+    /// # use slotmap_proved::{Global, graph, Key, NodeKey};
+    /// # use slotmap_proved::graph::Graph;
+    /// # fn main() -> Result<(), Box<dyn std::error::Error>> {
+    /// # let alloc = Global;
     /// let mut graph: Graph<NodeKey, &str, u64> = Graph::new(alloc)?;
     /// let a = graph.add_node("a")?;
     /// let b = graph.add_node("b")?;
@@ -434,6 +536,8 @@ impl<K: Key, N, E> Graph<K, N, E> {
     /// assert_eq!(nodes.next(), Some(a));
     /// assert_eq!(nodes.next(), Some(b));
     /// assert_eq!(nodes.next(), None);
+    /// # Ok(())
+    /// # }
     /// ```
     ///
     /// # Proved
@@ -441,6 +545,8 @@ impl<K: Key, N, E> Graph<K, N, E> {
     /// ```text
     /// ensures { result ≡ map.keys self.now.nodes.live }
     /// ```
+    ///
+    /// Words: [`live`](crate::words#live), [`nodes`](crate::words#nodes-of-slotmap_graph-parts).
     #[inline]
     pub fn nodes(&self) -> Keys<'_, K, N> {
         self.nodes.keys()
@@ -450,13 +556,19 @@ impl<K: Key, N, E> Graph<K, N, E> {
     ///
     /// All its steps together read each slot once.
     ///
-    /// ```ignore
+    /// ```
+    /// # use slotmap_proved::{Global, graph, Key, NodeKey};
+    /// # use slotmap_proved::graph::Graph;
+    /// # fn main() -> Result<(), Box<dyn std::error::Error>> {
+    /// # let alloc = Global;
     /// let mut graph: Graph<NodeKey, &str, u64> = Graph::new(alloc)?;
     /// let a = graph.add_node("a")?;
     /// let edge = graph.add_edge(a, a, 5)?;
     /// let mut edges = graph.edges();
     /// assert_eq!(edges.next(), Some(edge));
     /// assert_eq!(edges.next(), None);
+    /// # Ok(())
+    /// # }
     /// ```
     ///
     /// # Proved
@@ -464,6 +576,8 @@ impl<K: Key, N, E> Graph<K, N, E> {
     /// ```text
     /// ensures { result ≡ map.keys self.now.edges.live }
     /// ```
+    ///
+    /// Words: [`edges`](crate::words#edges-of-slotmap_graph-parts), [`live`](crate::words#live).
     #[inline]
     pub fn edges(&self) -> Keys<'_, EdgeKey, Edge<E>> {
         self.edges.keys()

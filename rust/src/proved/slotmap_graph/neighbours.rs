@@ -50,7 +50,11 @@ impl<K: Key, N, E> Graph<K, N, E> {
     /// Constant time. It needs no memory. A node that doesn't exist has none. Each node that it yields
     /// exists, so `graph[node]` reads its value.
     ///
-    /// ```ignore
+    /// ```
+    /// # use slotmap_proved::{Global, graph, Key, NodeKey};
+    /// # use slotmap_proved::graph::Graph;
+    /// # fn main() -> Result<(), Box<dyn std::error::Error>> {
+    /// # let alloc = Global;
     /// let mut graph: Graph<NodeKey, &str, u64> = Graph::new(alloc)?;
     /// let a = graph.add_node("a")?;
     /// let b = graph.add_node("b")?;
@@ -61,6 +65,8 @@ impl<K: Key, N, E> Graph<K, N, E> {
     /// for next in graph.neighbours_from(a) {
     ///     assert_eq!(graph[next], "b");
     /// }
+    /// # Ok(())
+    /// # }
     /// ```
     ///
     /// # Proved
@@ -69,6 +75,8 @@ impl<K: Key, N, E> Graph<K, N, E> {
     /// ensures in_order { result ≡ ends_along to self.now.edges.live (edges_at self.now.out (K.data_of node)) }
     /// ensures live { All (IsLive self.now.nodes) result }
     /// ```
+    ///
+    /// Words: [`edges`](crate::words#edges-of-slotmap_graph-parts), [`edges_at`](crate::words#edges_at), [`ends_along`](crate::words#ends_along), [`IsLive`](crate::words#islive), [`live`](crate::words#live), [`nodes`](crate::words#nodes-of-slotmap_graph-parts), [`out`](crate::words#out), [`to`](crate::words#to).
     #[inline]
     pub fn neighbours_from(&self, node: K) -> Neighbours<'_, K, E> {
         neighbours_of(Direction::Out, &self.nodes, &self.edges, &self.out, node)
@@ -80,7 +88,11 @@ impl<K: Key, N, E> Graph<K, N, E> {
     /// Constant time. It needs no memory. A node that doesn't exist has none. Each node that it yields
     /// exists, so `graph[node]` reads its value.
     ///
-    /// ```ignore
+    /// ```
+    /// # use slotmap_proved::{Global, graph, Key, NodeKey};
+    /// # use slotmap_proved::graph::Graph;
+    /// # fn main() -> Result<(), Box<dyn std::error::Error>> {
+    /// # let alloc = Global;
     /// let mut graph: Graph<NodeKey, &str, u64> = Graph::new(alloc)?;
     /// let a = graph.add_node("a")?;
     /// let b = graph.add_node("b")?;
@@ -88,6 +100,8 @@ impl<K: Key, N, E> Graph<K, N, E> {
     /// let mut nodes = graph.neighbours_to(b);
     /// assert_eq!(nodes.next(), Some(a));
     /// assert_eq!(nodes.next(), None);
+    /// # Ok(())
+    /// # }
     /// ```
     ///
     /// # Proved
@@ -96,6 +110,8 @@ impl<K: Key, N, E> Graph<K, N, E> {
     /// ensures in_order { result ≡ ends_along from self.now.edges.live (edges_at self.now.into (K.data_of node)) }
     /// ensures live { All (IsLive self.now.nodes) result }
     /// ```
+    ///
+    /// Words: [`edges`](crate::words#edges-of-slotmap_graph-parts), [`edges_at`](crate::words#edges_at), [`ends_along`](crate::words#ends_along), [`from`](crate::words#from), [`into`](crate::words#into), [`IsLive`](crate::words#islive), [`live`](crate::words#live), [`nodes`](crate::words#nodes-of-slotmap_graph-parts).
     #[inline]
     pub fn neighbours_to(&self, node: K) -> Neighbours<'_, K, E> {
         neighbours_of(Direction::Into, &self.nodes, &self.edges, &self.into, node)

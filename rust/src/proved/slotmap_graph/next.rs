@@ -28,13 +28,19 @@ impl<K: Key, N, E> Graph<K, N, E> {
     /// edges can be added and removed. Only the index of `node` counts. It takes time linear in the
     /// number of slots that it passes over.
     ///
-    /// ```ignore
+    /// ```
+    /// # use slotmap_proved::{Global, graph, Key, NodeKey};
+    /// # use slotmap_proved::graph::Graph;
+    /// # fn main() -> Result<(), Box<dyn std::error::Error>> {
+    /// # let alloc = Global;
     /// let mut graph: Graph<NodeKey, &str, u64> = Graph::new(alloc)?;
     /// let a = graph.add_node("a")?;
     /// let b = graph.add_node("b")?;
     /// assert_eq!(graph.next_node(None), Some(a));
     /// assert_eq!(graph.next_node(Some(a)), Some(b));
     /// assert_eq!(graph.next_node(Some(b)), None);
+    /// # Ok(())
+    /// # }
     /// ```
     ///
     /// # Proved
@@ -42,10 +48,13 @@ impl<K: Key, N, E> Graph<K, N, E> {
     /// ```text
     /// ensures live { IfSome result (λ found. IsLive self.now.nodes (K.data_of found)) }
     /// ensures after { IfSome result (λ found. index_after K.data_of node ≤ (K.data_of found).index) }
-    /// ensures first { IfSome result (λ found. (other : KeyOf) → IsLive self.now.nodes other → index_after K.data_of node ≤ other.index → (K.data_of found).index ≤ other.index) }
+    /// ensures first { IfSome result (λ found. (other : KeyOf) → IsLive self.now.nodes other →
+    ///     index_after K.data_of node ≤ other.index → (K.data_of found).index ≤ other.index) }
     /// ensures none { IfNone result ((other : KeyOf) → IsLive self.now.nodes other → other.index < index_after K.data_of node) }
     /// ensures valid { IsContent true self.now.nodes }
     /// ```
+    ///
+    /// Words: [`index`](crate::words#index), [`index_after`](crate::words#index_after), [`IsContent`](crate::words#iscontent), [`IsLive`](crate::words#islive), [`Key`](crate::words#key), [`nodes`](crate::words#nodes-of-slotmap_graph-parts).
     #[inline]
     pub fn next_node(&self, node: Option<K>) -> Option<K> {
         self.nodes.next_after(node)
@@ -58,12 +67,18 @@ impl<K: Key, N, E> Graph<K, N, E> {
     /// and borrow nothing meanwhile, as those of [`Graph::next_node`]. It takes time linear in the number
     /// of slots that it passes over.
     ///
-    /// ```ignore
+    /// ```
+    /// # use slotmap_proved::{Global, graph, Key, NodeKey};
+    /// # use slotmap_proved::graph::Graph;
+    /// # fn main() -> Result<(), Box<dyn std::error::Error>> {
+    /// # let alloc = Global;
     /// let mut graph: Graph<NodeKey, &str, u64> = Graph::new(alloc)?;
     /// let a = graph.add_node("a")?;
     /// let edge = graph.add_edge(a, a, 5)?;
     /// assert_eq!(graph.next_edge(None), Some(edge));
     /// assert_eq!(graph.next_edge(Some(edge)), None);
+    /// # Ok(())
+    /// # }
     /// ```
     ///
     /// # Proved
@@ -71,10 +86,13 @@ impl<K: Key, N, E> Graph<K, N, E> {
     /// ```text
     /// ensures live { IfSome result (λ found. IsLive self.now.edges found) }
     /// ensures after { IfSome result (λ found. index_after (λ e. e) edge ≤ found.index) }
-    /// ensures first { IfSome result (λ found. (other : KeyOf) → IsLive self.now.edges other → index_after (λ e. e) edge ≤ other.index → found.index ≤ other.index) }
+    /// ensures first { IfSome result (λ found. (other : KeyOf) → IsLive self.now.edges other →
+    ///     index_after (λ e. e) edge ≤ other.index → found.index ≤ other.index) }
     /// ensures none { IfNone result ((other : KeyOf) → IsLive self.now.edges other → other.index < index_after (λ e. e) edge) }
     /// ensures valid { IsContent true self.now.edges }
     /// ```
+    ///
+    /// Words: [`edges`](crate::words#edges-of-slotmap_graph-parts), [`index`](crate::words#index), [`index_after`](crate::words#index_after), [`IsContent`](crate::words#iscontent), [`IsLive`](crate::words#islive), [`Key`](crate::words#key).
     #[inline]
     pub fn next_edge(&self, edge: Option<EdgeKey>) -> Option<EdgeKey> {
         self.edges.next_after(edge)
@@ -86,7 +104,11 @@ impl<K: Key, N, E> Graph<K, N, E> {
     /// borrows nothing meanwhile, so values and edges may change on the way. To remove the edge at
     /// hand, take the next one first. Constant time.
     ///
-    /// ```ignore
+    /// ```
+    /// # use slotmap_proved::{Global, graph, Key, NodeKey};
+    /// # use slotmap_proved::graph::Graph;
+    /// # fn main() -> Result<(), Box<dyn std::error::Error>> {
+    /// # let alloc = Global;
     /// let mut graph: Graph<NodeKey, &str, u64> = Graph::new(alloc)?;
     /// let a = graph.add_node("a")?;
     /// let b = graph.add_node("b")?;
@@ -94,6 +116,8 @@ impl<K: Key, N, E> Graph<K, N, E> {
     /// graph.add_edge(a, a, 6)?;
     /// assert_eq!(graph.first_from(a), Some(edge));
     /// assert_eq!(graph.first_from(b), None);
+    /// # Ok(())
+    /// # }
     /// ```
     ///
     /// # Proved
@@ -102,6 +126,8 @@ impl<K: Key, N, E> Graph<K, N, E> {
     /// ensures first { result ≡ first_or (edges_at self.now.out (K.data_of node)) None }
     /// ensures listed { ListsEdges from self.now.edges.live (K.data_of node) (edges_at self.now.out (K.data_of node)) }
     /// ```
+    ///
+    /// Words: [`edges`](crate::words#edges-of-slotmap_graph-parts), [`edges_at`](crate::words#edges_at), [`first_or`](crate::words#first_or-of-slotmap_links-lists), [`from`](crate::words#from), [`ListsEdges`](crate::words#listsedges), [`live`](crate::words#live), [`out`](crate::words#out).
     #[inline]
     pub fn first_from(&self, node: K) -> Option<EdgeKey> {
         self.edges_from(node).next()
@@ -113,13 +139,19 @@ impl<K: Key, N, E> Graph<K, N, E> {
     /// nothing meanwhile, so values and edges may change on the way. To remove the edge at hand, take
     /// the next one first. Constant time.
     ///
-    /// ```ignore
+    /// ```
+    /// # use slotmap_proved::{Global, graph, Key, NodeKey};
+    /// # use slotmap_proved::graph::Graph;
+    /// # fn main() -> Result<(), Box<dyn std::error::Error>> {
+    /// # let alloc = Global;
     /// let mut graph: Graph<NodeKey, &str, u64> = Graph::new(alloc)?;
     /// let a = graph.add_node("a")?;
     /// let b = graph.add_node("b")?;
     /// let edge = graph.add_edge(a, b, 5)?;
     /// assert_eq!(graph.first_to(b), Some(edge));
     /// assert_eq!(graph.first_to(a), None);
+    /// # Ok(())
+    /// # }
     /// ```
     ///
     /// # Proved
@@ -128,6 +160,8 @@ impl<K: Key, N, E> Graph<K, N, E> {
     /// ensures first { result ≡ first_or (edges_at self.now.into (K.data_of node)) None }
     /// ensures listed { ListsEdges to self.now.edges.live (K.data_of node) (edges_at self.now.into (K.data_of node)) }
     /// ```
+    ///
+    /// Words: [`edges`](crate::words#edges-of-slotmap_graph-parts), [`edges_at`](crate::words#edges_at), [`first_or`](crate::words#first_or-of-slotmap_links-lists), [`into`](crate::words#into), [`ListsEdges`](crate::words#listsedges), [`live`](crate::words#live), [`to`](crate::words#to).
     #[inline]
     pub fn first_to(&self, node: K) -> Option<EdgeKey> {
         self.edges_to(node).next()
@@ -138,7 +172,11 @@ impl<K: Key, N, E> Graph<K, N, E> {
     ///
     /// Constant time.
     ///
-    /// ```ignore
+    /// ```
+    /// # use slotmap_proved::{Global, graph, Key, NodeKey};
+    /// # use slotmap_proved::graph::Graph;
+    /// # fn main() -> Result<(), Box<dyn std::error::Error>> {
+    /// # let alloc = Global;
     /// let mut graph: Graph<NodeKey, &str, u64> = Graph::new(alloc)?;
     /// let a = graph.add_node("a")?;
     /// let b = graph.add_node("b")?;
@@ -146,6 +184,8 @@ impl<K: Key, N, E> Graph<K, N, E> {
     /// let second = graph.add_edge(a, a, 6)?;
     /// assert_eq!(graph.next_from(first), Some(second));
     /// assert_eq!(graph.next_from(second), None);
+    /// # Ok(())
+    /// # }
     /// ```
     ///
     /// # Proved
@@ -154,6 +194,8 @@ impl<K: Key, N, E> Graph<K, N, E> {
     /// ensures value { result ≡ option_and_then (λ e. key_after edge (edges_at self.now.out (from e))) (map.get self.now.edges.live edge) }
     /// ensures along { (node : KeyOf) → 0 < times edge (edges_at self.now.out node) → result ≡ key_after edge (edges_at self.now.out node) }
     /// ```
+    ///
+    /// Words: [`edges`](crate::words#edges-of-slotmap_graph-parts), [`edges_at`](crate::words#edges_at), [`from`](crate::words#from), [`Key`](crate::words#key), [`key_after`](crate::words#key_after-of-slotmap_graph-parts), [`live`](crate::words#live), [`out`](crate::words#out), [`times`](crate::words#times).
     #[inline]
     pub fn next_from(&self, edge: EdgeKey) -> Option<EdgeKey> {
         next_of::<N, E>(&self.edges, &self.out, edge)
@@ -164,7 +206,11 @@ impl<K: Key, N, E> Graph<K, N, E> {
     ///
     /// Constant time.
     ///
-    /// ```ignore
+    /// ```
+    /// # use slotmap_proved::{Global, graph, Key, NodeKey};
+    /// # use slotmap_proved::graph::Graph;
+    /// # fn main() -> Result<(), Box<dyn std::error::Error>> {
+    /// # let alloc = Global;
     /// let mut graph: Graph<NodeKey, &str, u64> = Graph::new(alloc)?;
     /// let a = graph.add_node("a")?;
     /// let b = graph.add_node("b")?;
@@ -172,6 +218,8 @@ impl<K: Key, N, E> Graph<K, N, E> {
     /// let second = graph.add_edge(b, b, 6)?;
     /// assert_eq!(graph.next_to(first), Some(second));
     /// assert_eq!(graph.next_to(second), None);
+    /// # Ok(())
+    /// # }
     /// ```
     ///
     /// # Proved
@@ -180,6 +228,8 @@ impl<K: Key, N, E> Graph<K, N, E> {
     /// ensures value { result ≡ option_and_then (λ e. key_after edge (edges_at self.now.into (to e))) (map.get self.now.edges.live edge) }
     /// ensures along { (node : KeyOf) → 0 < times edge (edges_at self.now.into node) → result ≡ key_after edge (edges_at self.now.into node) }
     /// ```
+    ///
+    /// Words: [`edges`](crate::words#edges-of-slotmap_graph-parts), [`edges_at`](crate::words#edges_at), [`into`](crate::words#into), [`Key`](crate::words#key), [`key_after`](crate::words#key_after-of-slotmap_graph-parts), [`live`](crate::words#live), [`times`](crate::words#times), [`to`](crate::words#to).
     #[inline]
     pub fn next_to(&self, edge: EdgeKey) -> Option<EdgeKey> {
         next_of::<N, E>(&self.edges, &self.into, edge)

@@ -12,8 +12,14 @@ use crate::rt::std::alloc::{AllocError, Global};
 
 /// There is no order of the nodes in which each edge goes forward, or memory ran out.
 ///
-/// ```ignore
-/// assert_eq!(format!("{}", OrderError::Memory)?.as_str(), "out of memory");
+/// ```
+/// # use slotmap_proved::{Global, Key};
+/// # use slotmap_proved::graph::OrderError;
+/// # fn main() -> Result<(), Box<dyn std::error::Error>> {
+/// # let alloc = Global;
+/// assert_eq!(format!("{}", OrderError::Memory).as_str(), "out of memory");
+/// # Ok(())
+/// # }
 /// ```
 #[derive(Clone, Copy, Debug, Eq, PartialEq)]
 pub enum OrderError {
@@ -26,13 +32,19 @@ pub enum OrderError {
 impl OrderError {
     /// Returns the edge that closes a cycle, or `None` if memory ran out.
     ///
-    /// ```ignore
+    /// ```
+    /// # use slotmap_proved::{Global, graph, Key, NodeKey};
+    /// # use slotmap_proved::graph::Graph;
+    /// # fn main() -> Result<(), Box<dyn std::error::Error>> {
+    /// # let alloc = Global;
     /// let mut graph: Graph<NodeKey, &str, u64> = Graph::new(alloc)?;
     /// let a = graph.add_node("a")?;
     /// let own = graph.add_edge(a, a, 5)?;
     /// if let Err(error) = graph.topological_order(alloc) {
     ///     assert_eq!(error.edge(), Some(own));
     /// }
+    /// # Ok(())
+    /// # }
     /// ```
     ///
     /// # Proved
@@ -40,6 +52,8 @@ impl OrderError {
     /// ```text
     /// ensures { result ≡ edge_in self.now }
     /// ```
+    ///
+    /// Words: [`edge_in`](crate::words#edge_in).
     #[inline]
     pub fn edge(&self) -> Option<EdgeKey> {
         match self {
@@ -178,7 +192,11 @@ impl<K: Key, N, E> Graph<K, N, E> {
     /// memory runs out, and else with `Cycle` if there is no such order. That error holds an edge from
     /// whose end a path leads back to its start.
     ///
-    /// ```ignore
+    /// ```
+    /// # use slotmap_proved::{Global, graph, Key, NodeKey};
+    /// # use slotmap_proved::graph::{Graph, OrderError};
+    /// # fn main() -> Result<(), Box<dyn std::error::Error>> {
+    /// # let alloc = Global;
     /// let mut graph: Graph<NodeKey, &str, u64> = Graph::new(alloc)?;
     /// let a = graph.add_node("a")?;
     /// let b = graph.add_node("b")?;
@@ -187,6 +205,8 @@ impl<K: Key, N, E> Graph<K, N, E> {
     ///
     /// let own = graph.add_edge(a, a, 6)?;
     /// assert_eq!(graph.topological_order(alloc).err(), Some(OrderError::Cycle(own)));
+    /// # Ok(())
+    /// # }
     /// ```
     ///
     /// # Proved
@@ -198,6 +218,8 @@ impl<K: Key, N, E> Graph<K, N, E> {
     /// ensures acyclic { IfOk result (λ found. HasCycle self.now.edges.live → ⊥) }
     /// ensures err { IfErr result (RefusesOrder self.now.edges.live) }
     /// ```
+    ///
+    /// Words: [`edges`](crate::words#edges-of-slotmap_graph-parts), [`GoesForward`](crate::words#goesforward), [`HasCycle`](crate::words#hascycle), [`Key`](crate::words#key), [`live`](crate::words#live), [`nodes`](crate::words#nodes-of-slotmap_graph-parts), [`RefusesOrder`](crate::words#refusesorder), [`times`](crate::words#times).
     #[inline]
     pub fn topological_order(&self, alloc: Global) -> Result<Vec<K>, OrderError> {
         let mut found = Vec::with_capacity(alloc, self.nodes.len())?;

@@ -98,7 +98,11 @@ impl<K: Key, N, E> Graph<K, N, E> {
     /// It is made in constant time. All its steps together read each slot of the edges once. Both nodes
     /// of each edge exist, so `graph[from]` and `graph[to]` read their values.
     ///
-    /// ```ignore
+    /// ```
+    /// # use slotmap_proved::{Global, graph, Key, NodeKey};
+    /// # use slotmap_proved::graph::Graph;
+    /// # fn main() -> Result<(), Box<dyn std::error::Error>> {
+    /// # let alloc = Global;
     /// let mut graph: Graph<NodeKey, &str, u64> = Graph::new(alloc)?;
     /// let a = graph.add_node("a")?;
     /// let b = graph.add_node("b")?;
@@ -106,6 +110,8 @@ impl<K: Key, N, E> Graph<K, N, E> {
     /// let mut edges = graph.edge_references();
     /// assert_eq!(edges.next(), Some((edge, a, b, &5)));
     /// assert!(edges.next().is_none());
+    /// # Ok(())
+    /// # }
     /// ```
     ///
     /// # Proved
@@ -115,6 +121,8 @@ impl<K: Key, N, E> Graph<K, N, E> {
     /// ensures live { All (λ e. IsLive self.now.nodes e.1.from × IsLive self.now.nodes e.1.to) result }
     /// ensures only { All (λ e. map.get self.now.edges.live e.0 ≡ Some e.1) result }
     /// ```
+    ///
+    /// Words: [`edges`](crate::words#edges-of-slotmap_graph-parts), [`from`](crate::words#from), [`IsLive`](crate::words#islive), [`live`](crate::words#live), [`nodes`](crate::words#nodes-of-slotmap_graph-parts), [`to`](crate::words#to).
     #[inline]
     pub fn edge_references(&self) -> EdgeReferences<'_, K, E> {
         EdgeReferences {
@@ -129,7 +137,11 @@ impl<K: Key, N, E> Graph<K, N, E> {
     /// Constant time. A step looks up one edge. A node that doesn't exist has none. Both nodes of each
     /// edge exist.
     ///
-    /// ```ignore
+    /// ```
+    /// # use slotmap_proved::{Global, graph, Key, NodeKey};
+    /// # use slotmap_proved::graph::Graph;
+    /// # fn main() -> Result<(), Box<dyn std::error::Error>> {
+    /// # let alloc = Global;
     /// let mut graph: Graph<NodeKey, &str, u64> = Graph::new(alloc)?;
     /// let a = graph.add_node("a")?;
     /// let b = graph.add_node("b")?;
@@ -137,6 +149,8 @@ impl<K: Key, N, E> Graph<K, N, E> {
     /// let mut edges = graph.edge_references_from(a);
     /// assert_eq!(edges.next(), Some((edge, a, b, &5)));
     /// assert!(edges.next().is_none());
+    /// # Ok(())
+    /// # }
     /// ```
     ///
     /// # Proved
@@ -146,6 +160,8 @@ impl<K: Key, N, E> Graph<K, N, E> {
     /// ensures live { All (λ e. IsLive self.now.nodes e.1.from × IsLive self.now.nodes e.1.to) result }
     /// ensures only { All (λ e. (map.get self.now.edges.live e.0 ≡ Some e.1) × (e.1.from ≡ K.data_of node)) result }
     /// ```
+    ///
+    /// Words: [`edges`](crate::words#edges-of-slotmap_graph-parts), [`edges_at`](crate::words#edges_at), [`entries_along`](crate::words#entries_along), [`from`](crate::words#from), [`IsLive`](crate::words#islive), [`live`](crate::words#live), [`nodes`](crate::words#nodes-of-slotmap_graph-parts), [`out`](crate::words#out), [`to`](crate::words#to).
     #[inline]
     pub fn edge_references_from(&self, node: K) -> EdgeReferencesAt<'_, K, E> {
         references_of(&self.nodes, &self.edges, &self.out, node)
@@ -157,7 +173,11 @@ impl<K: Key, N, E> Graph<K, N, E> {
     /// Constant time. A step looks up one edge. A node that doesn't exist has none. Both nodes of each
     /// edge exist.
     ///
-    /// ```ignore
+    /// ```
+    /// # use slotmap_proved::{Global, graph, Key, NodeKey};
+    /// # use slotmap_proved::graph::Graph;
+    /// # fn main() -> Result<(), Box<dyn std::error::Error>> {
+    /// # let alloc = Global;
     /// let mut graph: Graph<NodeKey, &str, u64> = Graph::new(alloc)?;
     /// let a = graph.add_node("a")?;
     /// let b = graph.add_node("b")?;
@@ -165,6 +185,8 @@ impl<K: Key, N, E> Graph<K, N, E> {
     /// let mut edges = graph.edge_references_to(b);
     /// assert_eq!(edges.next(), Some((edge, a, b, &5)));
     /// assert_eq!(graph.edge_references_to(a).len(), 0);
+    /// # Ok(())
+    /// # }
     /// ```
     ///
     /// # Proved
@@ -174,6 +196,8 @@ impl<K: Key, N, E> Graph<K, N, E> {
     /// ensures live { All (λ e. IsLive self.now.nodes e.1.from × IsLive self.now.nodes e.1.to) result }
     /// ensures only { All (λ e. (map.get self.now.edges.live e.0 ≡ Some e.1) × (e.1.to ≡ K.data_of node)) result }
     /// ```
+    ///
+    /// Words: [`edges`](crate::words#edges-of-slotmap_graph-parts), [`edges_at`](crate::words#edges_at), [`entries_along`](crate::words#entries_along), [`from`](crate::words#from), [`into`](crate::words#into), [`IsLive`](crate::words#islive), [`live`](crate::words#live), [`nodes`](crate::words#nodes-of-slotmap_graph-parts), [`to`](crate::words#to).
     #[inline]
     pub fn edge_references_to(&self, node: K) -> EdgeReferencesAt<'_, K, E> {
         references_of(&self.nodes, &self.edges, &self.into, node)
@@ -183,12 +207,18 @@ impl<K: Key, N, E> Graph<K, N, E> {
     ///
     /// It is made in constant time. All its steps together read each slot of the nodes once.
     ///
-    /// ```ignore
+    /// ```
+    /// # use slotmap_proved::{Global, graph, Key, NodeKey};
+    /// # use slotmap_proved::graph::Graph;
+    /// # fn main() -> Result<(), Box<dyn std::error::Error>> {
+    /// # let alloc = Global;
     /// let mut graph: Graph<NodeKey, &str, u64> = Graph::new(alloc)?;
     /// let a = graph.add_node("a")?;
     /// let mut nodes = graph.node_references();
     /// assert_eq!(nodes.next(), Some((a, &"a")));
     /// assert_eq!(nodes.next(), None);
+    /// # Ok(())
+    /// # }
     /// ```
     ///
     /// # Proved
@@ -196,6 +226,8 @@ impl<K: Key, N, E> Graph<K, N, E> {
     /// ```text
     /// ensures { result ≡ map.entries self.now.nodes.live }
     /// ```
+    ///
+    /// Words: [`live`](crate::words#live), [`nodes`](crate::words#nodes-of-slotmap_graph-parts).
     #[inline]
     pub fn node_references(&self) -> basic::Iter<'_, K, N> {
         self.nodes.iter()

@@ -56,13 +56,19 @@ impl<K: Key, N, E> Graph<K, N, E> {
     ///
     /// It fails only if memory runs out.
     ///
-    /// ```ignore
+    /// ```
+    /// # use slotmap_proved::{Global, graph, Key, NodeKey};
+    /// # use slotmap_proved::graph::Graph;
+    /// # fn main() -> Result<(), Box<dyn std::error::Error>> {
+    /// # let alloc = Global;
     /// let mut graph: Graph<NodeKey, &str, u64> = Graph::new(alloc)?;
     /// let a = graph.add_node("a")?;
     /// let b = graph.add_node("b")?;
     /// graph.add_edge(a, b, 5)?;
     /// graph.add_edge(a, a, 6)?;
     /// assert_eq!(graph.neighbours(alloc, a)?.as_slice(), [b, a].as_slice());
+    /// # Ok(())
+    /// # }
     /// ```
     ///
     /// # Proved
@@ -70,6 +76,8 @@ impl<K: Key, N, E> Graph<K, N, E> {
     /// ```text
     /// ensures { IfOk result (λ found. list_map K.data_of found.items ≡ ends_along to self.now.edges.live (edges_at self.now.out (K.data_of node))) }
     /// ```
+    ///
+    /// Words: [`edges`](crate::words#edges-of-slotmap_graph-parts), [`edges_at`](crate::words#edges_at), [`ends_along`](crate::words#ends_along), [`live`](crate::words#live), [`out`](crate::words#out), [`to`](crate::words#to).
     #[inline]
     pub fn neighbours(&self, alloc: Global, node: K) -> Result<Vec<K>, AllocError> {
         let mut found = Vec::new(alloc);
@@ -82,13 +90,19 @@ impl<K: Key, N, E> Graph<K, N, E> {
     /// Returns the first edge from one node to another, in the order of [`Graph::edges_from`], or
     /// `None` if there is none.
     ///
-    /// ```ignore
+    /// ```
+    /// # use slotmap_proved::{Global, graph, Key, NodeKey};
+    /// # use slotmap_proved::graph::Graph;
+    /// # fn main() -> Result<(), Box<dyn std::error::Error>> {
+    /// # let alloc = Global;
     /// let mut graph: Graph<NodeKey, &str, u64> = Graph::new(alloc)?;
     /// let a = graph.add_node("a")?;
     /// let b = graph.add_node("b")?;
     /// let edge = graph.add_edge(a, b, 5)?;
     /// assert_eq!(graph.find_edge(a, b), Some(edge));
     /// assert_eq!(graph.find_edge(b, a), None);
+    /// # Ok(())
+    /// # }
     /// ```
     ///
     /// # Proved
@@ -97,6 +111,8 @@ impl<K: Key, N, E> Graph<K, N, E> {
     /// ensures first { result ≡ find (goes_to self.now.edges.live (K.data_of to)) (edges_at self.now.out (K.data_of from)) }
     /// ensures listed { ListsEdges (λ e. e.from) self.now.edges.live (K.data_of from) (edges_at self.now.out (K.data_of from)) }
     /// ```
+    ///
+    /// Words: [`edges`](crate::words#edges-of-slotmap_graph-parts), [`edges_at`](crate::words#edges_at), [`from`](crate::words#from), [`goes_to`](crate::words#goes_to), [`ListsEdges`](crate::words#listsedges), [`live`](crate::words#live), [`out`](crate::words#out), [`to`](crate::words#to).
     #[inline]
     pub fn find_edge(&self, from: K, to: K) -> Option<EdgeKey> {
         let to = inner(to);
@@ -129,7 +145,11 @@ impl<K: Key, N, E> Graph<K, N, E> {
     /// It takes time linear in the number of these nodes and their outgoing edges, and in the largest
     /// index of one of them: the marks are in a `SecondaryMap`. It fails only if memory runs out.
     ///
-    /// ```ignore
+    /// ```
+    /// # use slotmap_proved::{Global, graph, Key, NodeKey};
+    /// # use slotmap_proved::graph::Graph;
+    /// # fn main() -> Result<(), Box<dyn std::error::Error>> {
+    /// # let alloc = Global;
     /// let mut graph: Graph<NodeKey, &str, u64> = Graph::new(alloc)?;
     /// let a = graph.add_node("a")?;
     /// let b = graph.add_node("b")?;
@@ -137,6 +157,8 @@ impl<K: Key, N, E> Graph<K, N, E> {
     /// graph.add_edge(a, c, 5)?;
     /// graph.add_edge(a, b, 6)?;
     /// assert_eq!(graph.reachable(alloc, a)?.as_slice(), [a, c, b].as_slice());
+    /// # Ok(())
+    /// # }
     /// ```
     ///
     /// # Proved
@@ -145,10 +167,15 @@ impl<K: Key, N, E> Graph<K, N, E> {
     /// ensures once { IfOk result (λ found. (x : KeyOf) → times x (list_map K.data_of found.items) ≤ 1) }
     /// ensures count { IfOk result (λ found. length found.items ≤ map.len self.now.nodes.live) }
     /// ensures found_is_reachable { IfOk result (λ found. (x : KeyOf) → 0 < times x (list_map K.data_of found.items) → Leads self.now.edges.live (K.data_of from) x) }
-    /// ensures reachable_is_found { IfOk result (λ found. (x : KeyOf) → IsLive self.now.nodes (K.data_of from) → Leads self.now.edges.live (K.data_of from) x → 0 < times x (list_map K.data_of found.items)) }
-    /// ensures live { IfOk result (λ found. (x : KeyOf) → 0 < times x (list_map K.data_of found.items) → IsLive self.now.nodes (K.data_of from) × IsLive self.now.nodes x) }
-    /// ensures in_order { IfOk result (λ found. IsLive self.now.nodes (K.data_of from) → IsBreadthFirst (λ k. ends_along to self.now.edges.live (edges_at self.now.out k)) (K.data_of from) (list_map K.data_of found.items)) }
+    /// ensures reachable_is_found { IfOk result (λ found. (x : KeyOf) → IsLive self.now.nodes (K.data_of from)
+    ///     → Leads self.now.edges.live (K.data_of from) x → 0 < times x (list_map K.data_of found.items)) }
+    /// ensures live { IfOk result (λ found. (x : KeyOf) → 0 < times x (list_map K.data_of found.items)
+    ///     → IsLive self.now.nodes (K.data_of from) × IsLive self.now.nodes x) }
+    /// ensures in_order { IfOk result (λ found. IsLive self.now.nodes (K.data_of from)
+    ///     → IsBreadthFirst (λ k. ends_along to self.now.edges.live (edges_at self.now.out k)) (K.data_of from) (list_map K.data_of found.items)) }
     /// ```
+    ///
+    /// Words: [`edges`](crate::words#edges-of-slotmap_graph-parts), [`edges_at`](crate::words#edges_at), [`ends_along`](crate::words#ends_along), [`from`](crate::words#from), [`IsBreadthFirst`](crate::words#isbreadthfirst), [`IsLive`](crate::words#islive), [`Key`](crate::words#key), [`Leads`](crate::words#leads), [`live`](crate::words#live), [`nodes`](crate::words#nodes-of-slotmap_graph-parts), [`out`](crate::words#out), [`times`](crate::words#times), [`to`](crate::words#to).
     #[inline]
     pub fn reachable(&self, alloc: Global, from: K) -> Result<Vec<K>, AllocError> {
         let mut found = Vec::new(alloc);

@@ -30,11 +30,20 @@ impl<K: Key, V> HopSlotMap<K, V> {
     /// A removed key isn't live, nor is the null key. A key of another map is live here only if
     /// this map has a live key of the same index and version. Constant time.
     ///
-    /// ```ignore
+    /// ```
+    /// # use slotmap_proved::{DefaultKey, Global, Key};
+    /// # use slotmap_proved::fallible::HopSlotMap;
+    /// # fn main() -> Result<(), Box<dyn std::error::Error>> {
+    /// # let alloc = Global;
+    /// # let mut map: HopSlotMap<DefaultKey, u64> = HopSlotMap::new(alloc)?;
+    /// # let a = map.insert(1)?;
+    /// # let b = map.insert(2)?;
     /// assert!(map.contains_key(a));
     /// map.remove(a);
     /// assert!(!map.contains_key(a));
     /// assert!(!map.contains_key(DefaultKey::null()));
+    /// # Ok(())
+    /// # }
     /// ```
     ///
     /// # Proved
@@ -43,6 +52,8 @@ impl<K: Key, V> HopSlotMap<K, V> {
     /// ensures value { result ≡ map.contains_key self.now.content.live (K.data_of key) }
     /// ensures valid { IsHopContent self.now }
     /// ```
+    ///
+    /// Words: [`content`](crate::words#content-of-slotmap_hop-hopcontent), [`IsHopContent`](crate::words#ishopcontent), [`live`](crate::words#live).
     #[inline]
     pub fn contains_key(&self, key: K) -> bool {
         self.live_index(key).is_some()
@@ -52,10 +63,19 @@ impl<K: Key, V> HopSlotMap<K, V> {
     ///
     /// Constant time.
     ///
-    /// ```ignore
+    /// ```
+    /// # use slotmap_proved::{DefaultKey, Global, Key};
+    /// # use slotmap_proved::fallible::HopSlotMap;
+    /// # fn main() -> Result<(), Box<dyn std::error::Error>> {
+    /// # let alloc = Global;
+    /// # let mut map: HopSlotMap<DefaultKey, u64> = HopSlotMap::new(alloc)?;
+    /// # let a = map.insert(1)?;
+    /// # let b = map.insert(2)?;
     /// assert_eq!(map.get(b), Some(&2));
     /// map.remove(b);
     /// assert_eq!(map.get(b), None);
+    /// # Ok(())
+    /// # }
     /// ```
     ///
     /// # Proved
@@ -64,6 +84,8 @@ impl<K: Key, V> HopSlotMap<K, V> {
     /// ensures value { option_copied result ≡ map.get self.now.content.live (K.data_of key) }
     /// ensures valid { IsHopContent self.now }
     /// ```
+    ///
+    /// Words: [`content`](crate::words#content-of-slotmap_hop-hopcontent), [`IsHopContent`](crate::words#ishopcontent), [`live`](crate::words#live).
     #[inline]
     pub fn get(&self, key: K) -> Option<&V> {
         let index = self.live_index(key)?;
@@ -81,8 +103,17 @@ impl<K: Key, V> HopSlotMap<K, V> {
     /// The contract requires that the key is live. So this call is safe; Rust's is `unsafe`.
     /// Constant time.
     ///
-    /// ```ignore
+    /// ```
+    /// # use slotmap_proved::{DefaultKey, Global, Key};
+    /// # use slotmap_proved::fallible::HopSlotMap;
+    /// # fn main() -> Result<(), Box<dyn std::error::Error>> {
+    /// # let alloc = Global;
+    /// # let mut map: HopSlotMap<DefaultKey, u64> = HopSlotMap::new(alloc)?;
+    /// # let a = map.insert(1)?;
+    /// # let b = map.insert(2)?;
     /// assert_eq!(*map.get_unchecked(a), 1);
+    /// # Ok(())
+    /// # }
     /// ```
     ///
     /// # Proved
@@ -92,6 +123,8 @@ impl<K: Key, V> HopSlotMap<K, V> {
     /// ensures value { map.get self.now.content.live (K.data_of key) ≡ Some result.now }
     /// ensures valid { IsHopContent self.now }
     /// ```
+    ///
+    /// Words: [`content`](crate::words#content-of-slotmap_hop-hopcontent), [`IsHopContent`](crate::words#ishopcontent), [`IsLive`](crate::words#islive), [`live`](crate::words#live).
     #[inline]
     pub fn get_unchecked(&self, key: K) -> &V {
         assert!(self.contains_key(key), "the key is not live");
@@ -111,11 +144,20 @@ impl<K: Key, V> HopSlotMap<K, V> {
     /// Once the reference ends, the key has the last value written through it. All else is as
     /// before. Constant time.
     ///
-    /// ```ignore
+    /// ```
+    /// # use slotmap_proved::{DefaultKey, Global, Key};
+    /// # use slotmap_proved::fallible::HopSlotMap;
+    /// # fn main() -> Result<(), Box<dyn std::error::Error>> {
+    /// # let alloc = Global;
+    /// # let mut map: HopSlotMap<DefaultKey, u64> = HopSlotMap::new(alloc)?;
+    /// # let a = map.insert(1)?;
+    /// # let b = map.insert(2)?;
     /// if let Some(value) = map.get_mut(a) {
     ///     *value = 5;
     /// }
     /// assert_eq!(map.get(a), Some(&5));
+    /// # Ok(())
+    /// # }
     /// ```
     ///
     /// # Proved
@@ -125,6 +167,8 @@ impl<K: Key, V> HopSlotMap<K, V> {
     /// ensures value { option_copied_mut result ≡ map.get self.old.content.live (K.data_of key) }
     /// ensures valid { IsHopContent self.old }
     /// ```
+    ///
+    /// Words: [`content`](crate::words#content-of-slotmap_hop-hopcontent), [`IsHopContent`](crate::words#ishopcontent), [`lends_get`](crate::words#lends_get-of-slotmap_hop-lends), [`live`](crate::words#live).
     #[inline]
     pub fn get_mut(&mut self, key: K) -> Option<&mut V> {
         if self.contains_key(key) {
@@ -139,9 +183,18 @@ impl<K: Key, V> HopSlotMap<K, V> {
     /// The contract requires that the key is live. So this call is safe; Rust's is `unsafe`.
     /// Constant time.
     ///
-    /// ```ignore
+    /// ```
+    /// # use slotmap_proved::{DefaultKey, Global, Key};
+    /// # use slotmap_proved::fallible::HopSlotMap;
+    /// # fn main() -> Result<(), Box<dyn std::error::Error>> {
+    /// # let alloc = Global;
+    /// # let mut map: HopSlotMap<DefaultKey, u64> = HopSlotMap::new(alloc)?;
+    /// # let a = map.insert(1)?;
+    /// # let b = map.insert(2)?;
     /// *map.get_unchecked_mut(a) = 5;
     /// assert_eq!(map.get(a), Some(&5));
+    /// # Ok(())
+    /// # }
     /// ```
     ///
     /// # Proved
@@ -152,6 +205,8 @@ impl<K: Key, V> HopSlotMap<K, V> {
     /// ensures value { map.get self.old.content.live (K.data_of key) ≡ Some result.now }
     /// ensures valid { IsHopContent self.old }
     /// ```
+    ///
+    /// Words: [`content`](crate::words#content-of-slotmap_hop-hopcontent), [`IsHopContent`](crate::words#ishopcontent), [`IsLive`](crate::words#islive), [`lends_value`](crate::words#lends_value-of-slotmap_hop-lends), [`live`](crate::words#live).
     #[inline]
     pub fn get_unchecked_mut(&mut self, key: K) -> &mut V {
         assert!(self.contains_key(key), "the key is not live");
@@ -170,10 +225,19 @@ impl<K: Key, V> HopSlotMap<K, V> {
     /// If the key isn't live, nothing changes, and the new value is returned as the error. Constant
     /// time. Rust lacks this call.
     ///
-    /// ```ignore
+    /// ```
+    /// # use slotmap_proved::{DefaultKey, Global, Key};
+    /// # use slotmap_proved::fallible::HopSlotMap;
+    /// # fn main() -> Result<(), Box<dyn std::error::Error>> {
+    /// # let alloc = Global;
+    /// # let mut map: HopSlotMap<DefaultKey, u64> = HopSlotMap::new(alloc)?;
+    /// # let a = map.insert(1)?;
+    /// # let b = map.insert(2)?;
     /// assert_eq!(map.replace(a, 5), Ok(1));
     /// map.remove(a);
     /// assert_eq!(map.replace(a, 6), Err(6));
+    /// # Ok(())
+    /// # }
     /// ```
     ///
     /// # Proved
@@ -185,6 +249,8 @@ impl<K: Key, V> HopSlotMap<K, V> {
     /// ensures unchanged { OnErr result (self.new ≡ self.old) }
     /// ensures valid { StaysHop self.old self.new }
     /// ```
+    ///
+    /// Words: [`content`](crate::words#content-of-slotmap_hop-hopcontent), [`hop_with_value`](crate::words#hop_with_value), [`live`](crate::words#live), [`StaysHop`](crate::words#stayshop).
     #[inline]
     pub fn replace(&mut self, key: K, value: V) -> Result<V, V> {
         match self.get_mut(key) {
@@ -200,21 +266,19 @@ impl<K: Key, V> HopSlotMap<K, V> {
     /// Its time doesn't depend on the size of the map. In Rust `get_disjoint_mut` returns
     /// references instead.
     ///
-    /// ```ignore
+    /// ```
+    /// # use slotmap_proved::{DefaultKey, Global, Key};
+    /// # use slotmap_proved::fallible::HopSlotMap;
+    /// # fn main() -> Result<(), Box<dyn std::error::Error>> {
+    /// # let alloc = Global;
+    /// # let mut map: HopSlotMap<DefaultKey, u64> = HopSlotMap::new(alloc)?;
+    /// # let a = map.insert(1)?;
+    /// # let b = map.insert(2)?;
     /// assert_eq!(map.replace_disjoint([a, b], [5, 6]), Ok([1, 2]));
     /// assert_eq!(map.get(b), Some(&6));
     /// assert_eq!(map.replace_disjoint([a, a], [7, 8]), Err([7, 8]));
-    /// ```
-    ///
-    /// # Proved
-    ///
-    /// ```text
-    /// ensures which { IsOk result ↔ CanReplace self.old.content (map_list K.data_of keys) }
-    /// ensures value { IfOk result (AreValuesOf self.old.content (map_list K.data_of keys)) }
-    /// ensures ok { OnOk result (self.new ≡ hop_with_values self.old (map_list K.data_of keys) values) }
-    /// ensures err { IfErr result (λ given. given ≡ values) }
-    /// ensures unchanged { OnErr result (self.new ≡ self.old) }
-    /// ensures valid { StaysHop self.old self.new }
+    /// # Ok(())
+    /// # }
     /// ```
     #[inline]
     pub fn replace_disjoint<const N: usize>(
@@ -258,8 +322,17 @@ impl<K: Key, V> Index<K> for HopSlotMap<K, V> {
     ///
     /// The contract requires that the key is live; in Rust any other key panics. Constant time.
     ///
-    /// ```ignore
+    /// ```
+    /// # use slotmap_proved::{DefaultKey, Global, Key};
+    /// # use slotmap_proved::fallible::HopSlotMap;
+    /// # fn main() -> Result<(), Box<dyn std::error::Error>> {
+    /// # let alloc = Global;
+    /// # let mut map: HopSlotMap<DefaultKey, u64> = HopSlotMap::new(alloc)?;
+    /// # let a = map.insert(1)?;
+    /// # let b = map.insert(2)?;
     /// assert_eq!(map[a] + map[b], 3);
+    /// # Ok(())
+    /// # }
     /// ```
     #[inline]
     fn index(&self, key: K) -> &V {
@@ -273,9 +346,18 @@ impl<K: Key, V> IndexMut<K> for HopSlotMap<K, V> {
     ///
     /// The contract requires that the key is live; in Rust any other key panics. Constant time.
     ///
-    /// ```ignore
+    /// ```
+    /// # use slotmap_proved::{DefaultKey, Global, Key};
+    /// # use slotmap_proved::fallible::HopSlotMap;
+    /// # fn main() -> Result<(), Box<dyn std::error::Error>> {
+    /// # let alloc = Global;
+    /// # let mut map: HopSlotMap<DefaultKey, u64> = HopSlotMap::new(alloc)?;
+    /// # let a = map.insert(1)?;
+    /// # let b = map.insert(2)?;
     /// map[a] = 5;
     /// assert_eq!(map.get(a), Some(&5));
+    /// # Ok(())
+    /// # }
     /// ```
     ///
     /// # Proved
@@ -286,6 +368,8 @@ impl<K: Key, V> IndexMut<K> for HopSlotMap<K, V> {
     /// ensures value { map.get self.old.content.live (K.data_of key) ≡ Some result.now }
     /// ensures valid { IsHopContent self.old }
     /// ```
+    ///
+    /// Words: [`content`](crate::words#content-of-slotmap_hop-hopcontent), [`IsHopContent`](crate::words#ishopcontent), [`IsLive`](crate::words#islive), [`lends_value`](crate::words#lends_value-of-slotmap_hop-lends), [`live`](crate::words#live).
     #[inline]
     fn index_mut(&mut self, key: K) -> &mut V {
         assert!(self.contains_key(key), "the key is not live");

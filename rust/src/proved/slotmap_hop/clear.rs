@@ -16,10 +16,19 @@ impl<K: Key, V> HopSlotMap<K, V> {
     /// of vacant slots is skipped in one step if more slots are vacant than live. At most linear in
     /// the number of slots.
     ///
-    /// ```ignore
+    /// ```
+    /// # use slotmap_proved::{DefaultKey, Global, Key};
+    /// # use slotmap_proved::fallible::HopSlotMap;
+    /// # fn main() -> Result<(), Box<dyn std::error::Error>> {
+    /// # let alloc = Global;
+    /// # let mut map: HopSlotMap<DefaultKey, u64> = HopSlotMap::new(alloc)?;
+    /// # let a = map.insert(1)?;
+    /// # let b = map.insert(2)?;
     /// map.clear();
     /// assert!(map.is_empty());
     /// assert!(!map.contains_key(a));
+    /// # Ok(())
+    /// # }
     /// ```
     ///
     /// # Proved
@@ -30,6 +39,8 @@ impl<K: Key, V> HopSlotMap<K, V> {
     /// ensures blocks { self.new.blocks ≡ blocks_without_all self.old (map.keys self.old.content.live) }
     /// ensures valid { StaysHop self.old self.new }
     /// ```
+    ///
+    /// Words: [`blocks`](crate::words#blocks-of-slotmap_hop-hopcontent), [`blocks_without_all`](crate::words#blocks_without_all), [`content`](crate::words#content-of-slotmap_hop-hopcontent), [`Leaves`](crate::words#leaves), [`live`](crate::words#live), [`StaysHop`](crate::words#stayshop).
     #[inline]
     pub fn clear(&mut self) {
         if !std::mem::needs_drop::<V>() && self.clear_at_once() {
@@ -72,20 +83,32 @@ impl<K: Key, V> HopSlotMap<K, V> {
     /// slots is skipped in one step. At most linear in the number of slots, and in the length of `out`
     /// if it has to grow. Rust lacks this call.
     ///
-    /// ```ignore
+    /// ```
+    /// # use slotmap_proved::{DefaultKey, Global, Key};
+    /// # use slotmap_proved::fallible::{HopSlotMap, Vec};
+    /// # fn main() -> Result<(), Box<dyn std::error::Error>> {
+    /// # let alloc = Global;
+    /// # let mut map: HopSlotMap<DefaultKey, u64> = HopSlotMap::new(alloc)?;
+    /// # let a = map.insert(1)?;
+    /// # let b = map.insert(2)?;
     /// let mut keys = Vec::new(alloc);
     /// map.keys_into(&mut keys)?;
     /// assert_eq!(keys.len(), 2);
     /// assert_eq!(keys[0], a);
+    /// # Ok(())
+    /// # }
     /// ```
     ///
     /// # Proved
     ///
     /// ```text
-    /// ensures ok { OnOk result ((keys : List K) × (out.new.items ≡ out.old.items ++ keys) × (list_map K.data_of keys ≡ map.keys self.now.content.live)) }
+    /// ensures ok { OnOk result ((keys : List K) × (out.new.items ≡ out.old.items ++ keys)
+    ///     × (list_map K.data_of keys ≡ map.keys self.now.content.live)) }
     /// ensures unchanged { OnErr result (out.new.items ≡ out.old.items) }
     /// ensures valid { IsHopContent self.now }
     /// ```
+    ///
+    /// Words: [`content`](crate::words#content-of-slotmap_hop-hopcontent), [`IsHopContent`](crate::words#ishopcontent), [`live`](crate::words#live).
     #[inline]
     pub fn keys_into(&self, out: &mut Vec<K>) -> Result<(), OutOfMemory> {
         out.reserve(self.len())?;
@@ -102,23 +125,36 @@ impl<K: Key, V> HopSlotMap<K, V> {
     /// linear in the number of slots, and in the length of `out` if it has to grow. Rust lacks this
     /// call.
     ///
-    /// ```ignore
+    /// ```
+    /// # use slotmap_proved::{DefaultKey, Global, Key};
+    /// # use slotmap_proved::fallible::{HopSlotMap, Vec};
+    /// # fn main() -> Result<(), Box<dyn std::error::Error>> {
+    /// # let alloc = Global;
+    /// # let mut map: HopSlotMap<DefaultKey, u64> = HopSlotMap::new(alloc)?;
+    /// # let a = map.insert(1)?;
+    /// # let b = map.insert(2)?;
     /// let mut pairs = Vec::new(alloc);
     /// map.drain_into(&mut pairs)?;
     /// assert_eq!(pairs[1], (b, 2));
     /// assert!(map.is_empty());
+    /// # Ok(())
+    /// # }
     /// ```
     ///
     /// # Proved
     ///
     /// ```text
-    /// ensures ok { OnOk result ((pairs : List (K × V)) × (out.new.items ≡ out.old.items ++ pairs) × (list_map (λ p. (K.data_of p.0, p.1)) pairs ≡ map.entries self.old.content.live)) }
+    /// ensures ok { OnOk result ((pairs : List (K × V)) × (out.new.items ≡ out.old.items ++ pairs)
+    ///     × (list_map (λ p. (K.data_of p.0, p.1)) pairs ≡ map.entries self.old.content.live)) }
     /// ensures empty { OnOk result (self.new.content.live ≡ map.empty) }
     /// ensures leaves { OnOk result (Leaves self.old.content self.new.content) }
     /// ensures blocks { OnOk result (self.new.blocks ≡ blocks_without_all self.old (map.keys self.old.content.live)) }
+    ///
     /// ensures unchanged { OnErr result ((self.new ≡ self.old) × (out.new.items ≡ out.old.items)) }
     /// ensures valid { StaysHop self.old self.new }
     /// ```
+    ///
+    /// Words: [`blocks`](crate::words#blocks-of-slotmap_hop-hopcontent), [`blocks_without_all`](crate::words#blocks_without_all), [`content`](crate::words#content-of-slotmap_hop-hopcontent), [`Leaves`](crate::words#leaves), [`live`](crate::words#live), [`StaysHop`](crate::words#stayshop).
     #[inline]
     pub fn drain_into(&mut self, out: &mut Vec<(K, V)>) -> Result<(), OutOfMemory> {
         out.reserve(self.len())?;

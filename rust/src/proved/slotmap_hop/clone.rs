@@ -46,11 +46,20 @@ impl<K: Key, V: Clone> HopSlotMap<K, V> {
     /// If memory runs out, or the clone of a value fails, the call fails, and what was copied is
     /// dropped. Linear in the number of slots.
     ///
-    /// ```ignore
+    /// ```
+    /// # use slotmap_proved::{DefaultKey, Global, Key};
+    /// # use slotmap_proved::fallible::HopSlotMap;
+    /// # fn main() -> Result<(), Box<dyn std::error::Error>> {
+    /// # let alloc = Global;
+    /// # let mut map: HopSlotMap<DefaultKey, u64> = HopSlotMap::new(alloc)?;
+    /// # let a = map.insert(1)?;
+    /// # let b = map.insert(2)?;
     /// let mut copy = map.clone()?;
     /// copy.remove(a);
     /// assert_eq!(copy.get(b), Some(&2));
     /// assert_eq!(map.get(a), Some(&1));
+    /// # Ok(())
+    /// # }
     /// ```
     ///
     /// # Proved
@@ -58,10 +67,15 @@ impl<K: Key, V: Clone> HopSlotMap<K, V> {
     /// ```text
     /// ensures clones { IfOk result (λ copy. IsCloneBy V.is_clone self.now.content copy.content) }
     /// ensures blocks { IfOk result (λ copy. copy.blocks ≡ self.now.blocks) }
+    ///
     /// // Where clones equal their values, the copy holds the same.
-    /// ensures copies_if_clones_equal { IfOk result (λ copy. ClonesEqual V.is_clone → IsCopy self.now.content copy.content) }
+    /// ensures copies_if_clones_equal { IfOk result (λ copy.
+    ///     ClonesEqual V.is_clone → IsCopy self.now.content copy.content) }
+    ///
     /// ensures valid { IfOk result IsHopContent }
     /// ```
+    ///
+    /// Words: [`blocks`](crate::words#blocks-of-slotmap_hop-hopcontent), [`ClonesEqual`](crate::words#clonesequal), [`content`](crate::words#content-of-slotmap_hop-hopcontent), [`IsCloneBy`](crate::words#iscloneby), [`IsCopy`](crate::words#iscopy), [`IsHopContent`](crate::words#ishopcontent).
     #[inline]
     pub fn clone(&self) -> Result<Self, AllocError> {
         Ok(HopSlotMap {
@@ -78,11 +92,20 @@ impl<K: Key, V: Clone> HopSlotMap<K, V> {
     /// copy is made before the old content is dropped. So if the call fails, the map is unchanged.
     /// At most linear in the number of slots of both maps.
     ///
-    /// ```ignore
+    /// ```
+    /// # use slotmap_proved::{DefaultKey, Global, Key};
+    /// # use slotmap_proved::fallible::HopSlotMap;
+    /// # fn main() -> Result<(), Box<dyn std::error::Error>> {
+    /// # let alloc = Global;
+    /// # let mut map: HopSlotMap<DefaultKey, u64> = HopSlotMap::new(alloc)?;
+    /// # let a = map.insert(1)?;
+    /// # let b = map.insert(2)?;
     /// let mut copy: HopSlotMap<DefaultKey, u64> = HopSlotMap::new(alloc)?;
     /// copy.clone_from(&map)?;
     /// assert_eq!(copy.get(a), Some(&1));
     /// assert_eq!(copy.len(), map.len());
+    /// # Ok(())
+    /// # }
     /// ```
     ///
     /// # Proved
@@ -90,11 +113,16 @@ impl<K: Key, V: Clone> HopSlotMap<K, V> {
     /// ```text
     /// ensures clones { OnOk result (IsCloneBy V.is_clone source.now.content self.new.content) }
     /// ensures blocks { OnOk result (self.new.blocks ≡ source.now.blocks) }
+    ///
     /// // Where clones equal their values, this map holds what the source holds.
-    /// ensures copies_if_clones_equal { OnOk result ( ClonesEqual V.is_clone → IsCopy source.now.content self.new.content) }
+    /// ensures copies_if_clones_equal { OnOk result (
+    ///     ClonesEqual V.is_clone → IsCopy source.now.content self.new.content) }
+    ///
     /// ensures unchanged { OnErr result (self.new ≡ self.old) }
     /// ensures valid { OnOk result (IsHopContent self.new) }
     /// ```
+    ///
+    /// Words: [`blocks`](crate::words#blocks-of-slotmap_hop-hopcontent), [`ClonesEqual`](crate::words#clonesequal), [`content`](crate::words#content-of-slotmap_hop-hopcontent), [`IsCloneBy`](crate::words#iscloneby), [`IsCopy`](crate::words#iscopy), [`IsHopContent`](crate::words#ishopcontent).
     #[inline]
     pub fn clone_from(&mut self, source: &Self) -> Result<(), AllocError>
     where

@@ -73,13 +73,22 @@ impl<K: Key, V> HopSlotMap<K, V> {
     /// removes the remaining keys too. A block of vacant slots is skipped in one step. All steps
     /// and the drop together are at most linear in the number of slots.
     ///
-    /// ```ignore
+    /// ```
+    /// # use slotmap_proved::{DefaultKey, Global, Key};
+    /// # use slotmap_proved::fallible::HopSlotMap;
+    /// # fn main() -> Result<(), Box<dyn std::error::Error>> {
+    /// # let alloc = Global;
+    /// # let mut map: HopSlotMap<DefaultKey, u64> = HopSlotMap::new(alloc)?;
+    /// # let a = map.insert(1)?;
+    /// # let b = map.insert(2)?;
     /// let mut sum = 0;
     /// for (_, value) in map.drain() {
     ///     sum += value;
     /// }
     /// assert_eq!(sum, 3);
     /// assert!(map.is_empty());
+    /// # Ok(())
+    /// # }
     /// ```
     ///
     /// # Proved
@@ -88,12 +97,16 @@ impl<K: Key, V> HopSlotMap<K, V> {
     /// ensures map { (hop_drain_loan result).now ≡ self.old }
     /// ensures same_reference { (hop_drain_loan result).ghost_name ≡ self.entry.ghost_name }
     /// ensures ready { HopDrainCanStep K.data_of result }
+    ///
     /// // Laws of the steps, for callers that take more of them.
     /// ensures stays { KeepsAlong (HopDrainSteps K.data_of) (KeepsLoan hop_drain_loan EmptiesMap) result }
     /// ensures lists { ListsAlong K.data_of hop_drain_live (HopDrainSteps K.data_of) result }
     /// ensures in_order { InOrderAlong K.data_of hop_drain_live (HopDrainSteps K.data_of) result }
+    ///
     /// ensures valid { IsHopContent self.old }
     /// ```
+    ///
+    /// Words: [`EmptiesMap`](crate::words#emptiesmap), [`hop_drain_live`](crate::words#hop_drain_live), [`hop_drain_loan`](crate::words#hop_drain_loan), [`HopDrainCanStep`](crate::words#hopdraincanstep), [`HopDrainSteps`](crate::words#hopdrainsteps), [`InOrderAlong`](crate::words#inorderalong), [`IsHopContent`](crate::words#ishopcontent), [`KeepsAlong`](crate::words#keepsalong), [`KeepsLoan`](crate::words#keepsloan), [`ListsAlong`](crate::words#listsalong).
     #[inline]
     pub fn drain(&mut self) -> Drain<'_, K, V> {
         let next = self.first_live(0);

@@ -78,11 +78,20 @@ impl<K: Key, V> HopSlotMap<K, V> {
     /// runs out. The error holds the value, and the map holds what it held. In Rust a full map
     /// panics, and running out of memory aborts. Constant time, unless the vector grows.
     ///
-    /// ```ignore
+    /// ```
+    /// # use slotmap_proved::{DefaultKey, Global, Key};
+    /// # use slotmap_proved::fallible::HopSlotMap;
+    /// # fn main() -> Result<(), Box<dyn std::error::Error>> {
+    /// # let alloc = Global;
+    /// # let mut map: HopSlotMap<DefaultKey, u64> = HopSlotMap::new(alloc)?;
+    /// # let a = map.insert(1)?;
+    /// # let b = map.insert(2)?;
     /// map.remove(a);
     /// let c = map.insert(3)?;
     /// assert_eq!(c.data().idx(), a.data().idx());
     /// assert!(c != a);
+    /// # Ok(())
+    /// # }
     /// ```
     ///
     /// # Proved
@@ -90,13 +99,19 @@ impl<K: Key, V> HopSlotMap<K, V> {
     /// ```text
     /// ensures ok { IfOk result (λ key. Inserts self.old.content (K.data_of key) value self.new.content) }
     /// ensures err { IfErr result (λ error. Refuses self.old.content value error) }
+    ///
     /// // The blocks lose the new key's slot; if the insert fails they stay.
     /// ensures blocks { MatchResult result (λ _. self.new.blocks ≡ shorter self.old.blocks) (λ _. self.new.blocks ≡ self.old.blocks) }
+    ///
     /// ensures unchanged { OnErr result (Keeps self.old.content self.new.content) }
+    ///
     /// // If a slot is vacant, the call can't fail.
     /// ensures reuses { HasVacant self.old.content → IsOk result }
+    ///
     /// ensures valid { GrowsHop self.old self.new }
     /// ```
+    ///
+    /// Words: [`blocks`](crate::words#blocks-of-slotmap_hop-hopcontent), [`content`](crate::words#content-of-slotmap_hop-hopcontent), [`GrowsHop`](crate::words#growshop), [`HasVacant`](crate::words#hasvacant), [`Inserts`](crate::words#inserts), [`Keeps`](crate::words#keeps), [`Refuses`](crate::words#refuses), [`shorter`](crate::words#shorter).
     #[inline(always)]
     pub fn insert(&mut self, value: V) -> Result<K, InsertError<V>> {
         match self.make_room() {
@@ -112,24 +127,41 @@ impl<K: Key, V> HopSlotMap<K, V> {
     /// closure. Then the closure is called once, with the key that the call will return. In Rust
     /// the closure runs before the vector grows. Costs as `insert`.
     ///
-    /// ```ignore
+    /// ```
+    /// # use slotmap_proved::{DefaultKey, Global, Key};
+    /// # use slotmap_proved::fallible::HopSlotMap;
+    /// # fn main() -> Result<(), Box<dyn std::error::Error>> {
+    /// # let alloc = Global;
+    /// # let mut map: HopSlotMap<DefaultKey, u64> = HopSlotMap::new(alloc)?;
+    /// # let a = map.insert(1)?;
+    /// # let b = map.insert(2)?;
     /// let c = map.insert_with_key(|key: DefaultKey| key.data().as_ffi())?;
     /// assert_eq!(map.get(c), Some(&c.data().as_ffi()));
+    /// # Ok(())
+    /// # }
     /// ```
     ///
     /// # Proved
     ///
     /// ```text
     /// requires { used self.old.content < most → (key : K) → K.data_of key ≡ self.old.content.offer → F.pre f key }
-    /// ensures ok { IfOk result (λ key. (v : V) × F.post f key v × Inserts self.old.content (K.data_of key) v self.new.content) }
+    ///
+    /// ensures ok { IfOk result (λ key. (v : V) × F.post f key v
+    ///     × Inserts self.old.content (K.data_of key) v self.new.content) }
     /// ensures err { IfErr result (RefusesInsert self.old.content) }
+    ///
     /// // The blocks lose the new key's slot; if the insert fails they stay.
     /// ensures blocks { MatchResult result (λ _. self.new.blocks ≡ shorter self.old.blocks) (λ _. self.new.blocks ≡ self.old.blocks) }
+    ///
     /// ensures unchanged { OnErr result (Keeps self.old.content self.new.content) }
+    ///
     /// // If a slot is vacant, the call can't fail.
     /// ensures reuses { HasVacant self.old.content → IsOk result }
+    ///
     /// ensures valid { GrowsHop self.old self.new }
     /// ```
+    ///
+    /// Words: [`blocks`](crate::words#blocks-of-slotmap_hop-hopcontent), [`content`](crate::words#content-of-slotmap_hop-hopcontent), [`GrowsHop`](crate::words#growshop), [`HasVacant`](crate::words#hasvacant), [`Inserts`](crate::words#inserts), [`Keeps`](crate::words#keeps), [`most`](crate::words#most), [`offer`](crate::words#offer), [`RefusesInsert`](crate::words#refusesinsert), [`shorter`](crate::words#shorter), [`used`](crate::words#used).
     #[inline]
     pub fn insert_with_key<F: FnOnce(K) -> V>(&mut self, f: F) -> Result<K, InsertWithError>
     where
@@ -147,25 +179,42 @@ impl<K: Key, V> HopSlotMap<K, V> {
     /// closure's error is returned in `Closure`. The next insert returns the key that the closure
     /// was called with. Costs as `insert`. In Rust the closure's error alone is returned.
     ///
-    /// ```ignore
+    /// ```
+    /// # use slotmap_proved::{DefaultKey, Global, Key, TryInsertError};
+    /// # use slotmap_proved::fallible::HopSlotMap;
+    /// # fn main() -> Result<(), Box<dyn std::error::Error>> {
+    /// # let alloc = Global;
+    /// # let mut map: HopSlotMap<DefaultKey, u64> = HopSlotMap::new(alloc)?;
+    /// # let a = map.insert(1)?;
+    /// # let b = map.insert(2)?;
     /// let made: Result<DefaultKey, TryInsertError<u64>> = map.try_insert_with_key(|_| Err(7));
     /// assert!(matches!(made, Err(TryInsertError::Closure(7))));
     /// assert_eq!(map.len(), 2);
+    /// # Ok(())
+    /// # }
     /// ```
     ///
     /// # Proved
     ///
     /// ```text
     /// requires { used self.old.content < most → (key : K) → K.data_of key ≡ self.old.content.offer → F.pre f key }
-    /// ensures ok { IfOk result (λ key. (v : V) × F.post f key (Ok v) × Inserts self.old.content (K.data_of key) v self.new.content) }
+    ///
+    /// ensures ok { IfOk result (λ key. (v : V) × F.post f key (Ok v)
+    ///     × Inserts self.old.content (K.data_of key) v self.new.content) }
     /// ensures err { IfErr result (λ error. RefusesWith K.data_of (F.post f) self.old.content error) }
+    ///
     /// // The blocks lose the new key's slot; if the insert fails they stay.
     /// ensures blocks { MatchResult result (λ _. self.new.blocks ≡ shorter self.old.blocks) (λ _. self.new.blocks ≡ self.old.blocks) }
+    ///
     /// ensures unchanged { OnErr result (Keeps self.old.content self.new.content) }
+    ///
     /// // If a slot is vacant, memory can't run out.
     /// ensures reuses { result ≡ Err TryInsertError.Memory → map.len self.old.content.next ≡ 0 }
+    ///
     /// ensures valid { GrowsHop self.old self.new }
     /// ```
+    ///
+    /// Words: [`blocks`](crate::words#blocks-of-slotmap_hop-hopcontent), [`content`](crate::words#content-of-slotmap_hop-hopcontent), [`GrowsHop`](crate::words#growshop), [`Inserts`](crate::words#inserts), [`Keeps`](crate::words#keeps), [`most`](crate::words#most), [`next`](crate::words#next), [`offer`](crate::words#offer), [`RefusesWith`](crate::words#refuseswith), [`shorter`](crate::words#shorter), [`used`](crate::words#used).
     #[inline]
     pub fn try_insert_with_key<F: FnOnce(K) -> Result<V, E>, E>(
         &mut self,

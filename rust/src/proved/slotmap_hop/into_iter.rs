@@ -22,11 +22,20 @@ use crate::rt::std::marker::PhantomData;
 /// yield. After its end it yields nothing. A step skips a block of vacant slots at once, and
 /// allocates nothing. Dropping it drops the values that are left.
 ///
-/// ```ignore
+/// ```
+/// # use slotmap_proved::{DefaultKey, Global, Key};
+/// # use slotmap_proved::fallible::HopSlotMap;
+/// # fn main() -> Result<(), Box<dyn std::error::Error>> {
+/// # let alloc = Global;
+/// # let mut map: HopSlotMap<DefaultKey, u64> = HopSlotMap::new(alloc)?;
+/// # let a = map.insert(1)?;
+/// # let b = map.insert(2)?;
 /// let mut pairs = map.into_iter();
 /// assert_eq!(pairs.next(), Some((a, 1)));
 /// assert_eq!(pairs.next(), Some((b, 2)));
 /// assert_eq!(pairs.next(), None);
+/// # Ok(())
+/// # }
 /// ```
 pub struct IntoIter<K, V> {
     // A slot whose value was yielded counts as retired.
@@ -44,10 +53,19 @@ impl<K, V> IntoIter<K, V> {
     ///
     /// Constant time.
     ///
-    /// ```ignore
+    /// ```
+    /// # use slotmap_proved::{DefaultKey, Global, Key};
+    /// # use slotmap_proved::fallible::HopSlotMap;
+    /// # fn main() -> Result<(), Box<dyn std::error::Error>> {
+    /// # let alloc = Global;
+    /// # let mut map: HopSlotMap<DefaultKey, u64> = HopSlotMap::new(alloc)?;
+    /// # let a = map.insert(1)?;
+    /// # let b = map.insert(2)?;
     /// let mut pairs = map.into_iter();
     /// pairs.next();
     /// assert_eq!(pairs.len(), 1);
+    /// # Ok(())
+    /// # }
     /// ```
     ///
     /// # Proved
@@ -67,11 +85,20 @@ impl<K, V: Clone> IntoIter<K, V> {
     /// If memory runs out, or the clone of a value fails, the call fails, and this iterator stays as
     /// it is. Linear in the number of slots of the map.
     ///
-    /// ```ignore
+    /// ```
+    /// # use slotmap_proved::{DefaultKey, Global, Key};
+    /// # use slotmap_proved::fallible::HopSlotMap;
+    /// # fn main() -> Result<(), Box<dyn std::error::Error>> {
+    /// # let alloc = Global;
+    /// # let mut map: HopSlotMap<DefaultKey, u64> = HopSlotMap::new(alloc)?;
+    /// # let a = map.insert(1)?;
+    /// # let b = map.insert(2)?;
     /// let pairs = map.into_iter();
     /// let mut copy = pairs.clone()?;
     /// assert_eq!(copy.next(), Some((a, 1)));
     /// assert_eq!(pairs.len(), 2);
+    /// # Ok(())
+    /// # }
     /// ```
     ///
     /// # Proved
@@ -81,6 +108,8 @@ impl<K, V: Clone> IntoIter<K, V> {
     /// // Where clones equal their values, the second one yields the same pairs.
     /// ensures copies_if_clones_equal { IfOk result (λ copy. ClonesEqual V.is_clone → copy ≡ self.now) }
     /// ```
+    ///
+    /// Words: [`AreClones`](crate::words#areclones), [`ClonesEqual`](crate::words#clonesequal).
     #[inline]
     pub fn clone(&self) -> Result<Self, AllocError> {
         Ok(IntoIter {

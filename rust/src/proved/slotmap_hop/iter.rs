@@ -67,10 +67,19 @@ impl<'a, K, V> Iter<'a, K, V> {
     ///
     /// Constant time.
     ///
-    /// ```ignore
+    /// ```
+    /// # use slotmap_proved::{DefaultKey, Global, Key};
+    /// # use slotmap_proved::fallible::HopSlotMap;
+    /// # fn main() -> Result<(), Box<dyn std::error::Error>> {
+    /// # let alloc = Global;
+    /// # let mut map: HopSlotMap<DefaultKey, u64> = HopSlotMap::new(alloc)?;
+    /// # let a = map.insert(1)?;
+    /// # let b = map.insert(2)?;
     /// let mut pairs = map.iter();
     /// pairs.next();
     /// assert_eq!(pairs.len(), 1);
+    /// # Ok(())
+    /// # }
     /// ```
     ///
     /// # Proved
@@ -78,6 +87,8 @@ impl<'a, K, V> Iter<'a, K, V> {
     /// ```text
     /// ensures { result ≡ length self.now.rest }
     /// ```
+    ///
+    /// Words: [`rest`](crate::words#rest).
     #[inline]
     pub fn len(&self) -> usize {
         self.left
@@ -87,12 +98,21 @@ impl<'a, K, V> Iter<'a, K, V> {
     ///
     /// Constant time. Rust lacks this call.
     ///
-    /// ```ignore
+    /// ```
+    /// # use slotmap_proved::{DefaultKey, Global, Key};
+    /// # use slotmap_proved::fallible::HopSlotMap;
+    /// # fn main() -> Result<(), Box<dyn std::error::Error>> {
+    /// # let alloc = Global;
+    /// # let mut map: HopSlotMap<DefaultKey, u64> = HopSlotMap::new(alloc)?;
+    /// # let a = map.insert(1)?;
+    /// # let b = map.insert(2)?;
     /// map.insert(3)?;
     /// map.remove(b);
     /// let mut pairs = map.iter();
     /// while let Some(_) = pairs.next() {}
     /// assert_eq!(pairs.reads(), 3);
+    /// # Ok(())
+    /// # }
     /// ```
     ///
     /// # Proved
@@ -100,6 +120,8 @@ impl<'a, K, V> Iter<'a, K, V> {
     /// ```text
     /// ensures { result ≡ self.now.reads }
     /// ```
+    ///
+    /// Words: [`reads`](crate::words#reads-of-slotmap_hop-iter).
     #[inline]
     pub fn reads(&self) -> usize {
         self.counted.reads()
@@ -174,10 +196,19 @@ impl<'a, K, V> Keys<'a, K, V> {
     ///
     /// Constant time.
     ///
-    /// ```ignore
+    /// ```
+    /// # use slotmap_proved::{DefaultKey, Global, Key};
+    /// # use slotmap_proved::fallible::HopSlotMap;
+    /// # fn main() -> Result<(), Box<dyn std::error::Error>> {
+    /// # let alloc = Global;
+    /// # let mut map: HopSlotMap<DefaultKey, u64> = HopSlotMap::new(alloc)?;
+    /// # let a = map.insert(1)?;
+    /// # let b = map.insert(2)?;
     /// let mut keys = map.keys();
     /// keys.next();
     /// assert_eq!(keys.len(), 1);
+    /// # Ok(())
+    /// # }
     /// ```
     ///
     /// # Proved
@@ -185,6 +216,8 @@ impl<'a, K, V> Keys<'a, K, V> {
     /// ```text
     /// ensures { result ≡ length self.now.rest }
     /// ```
+    ///
+    /// Words: [`rest`](crate::words#rest).
     #[inline]
     pub fn len(&self) -> usize {
         self.pairs.len()
@@ -194,10 +227,19 @@ impl<'a, K, V> Keys<'a, K, V> {
     ///
     /// Constant time. Rust lacks this call.
     ///
-    /// ```ignore
+    /// ```
+    /// # use slotmap_proved::{DefaultKey, Global, Key};
+    /// # use slotmap_proved::fallible::HopSlotMap;
+    /// # fn main() -> Result<(), Box<dyn std::error::Error>> {
+    /// # let alloc = Global;
+    /// # let mut map: HopSlotMap<DefaultKey, u64> = HopSlotMap::new(alloc)?;
+    /// # let a = map.insert(1)?;
+    /// # let b = map.insert(2)?;
     /// let mut keys = map.keys();
     /// while let Some(_) = keys.next() {}
     /// assert!(keys.reads() <= 2 * map.len());
+    /// # Ok(())
+    /// # }
     /// ```
     ///
     /// # Proved
@@ -205,6 +247,8 @@ impl<'a, K, V> Keys<'a, K, V> {
     /// ```text
     /// ensures { result ≡ self.now.reads }
     /// ```
+    ///
+    /// Words: [`reads`](crate::words#reads-of-slotmap_hop-iter).
     #[inline]
     pub fn reads(&self) -> usize {
         self.pairs.reads()
@@ -266,10 +310,19 @@ impl<'a, K, V> Values<'a, K, V> {
     ///
     /// Constant time.
     ///
-    /// ```ignore
+    /// ```
+    /// # use slotmap_proved::{DefaultKey, Global, Key};
+    /// # use slotmap_proved::fallible::HopSlotMap;
+    /// # fn main() -> Result<(), Box<dyn std::error::Error>> {
+    /// # let alloc = Global;
+    /// # let mut map: HopSlotMap<DefaultKey, u64> = HopSlotMap::new(alloc)?;
+    /// # let a = map.insert(1)?;
+    /// # let b = map.insert(2)?;
     /// let mut values = map.values();
     /// values.next();
     /// assert_eq!(values.len(), 1);
+    /// # Ok(())
+    /// # }
     /// ```
     ///
     /// # Proved
@@ -277,6 +330,8 @@ impl<'a, K, V> Values<'a, K, V> {
     /// ```text
     /// ensures { result ≡ length self.now.rest }
     /// ```
+    ///
+    /// Words: [`rest`](crate::words#rest).
     #[inline]
     pub fn len(&self) -> usize {
         self.pairs.len()
@@ -286,10 +341,19 @@ impl<'a, K, V> Values<'a, K, V> {
     ///
     /// Constant time. Rust lacks this call.
     ///
-    /// ```ignore
+    /// ```
+    /// # use slotmap_proved::{DefaultKey, Global, Key};
+    /// # use slotmap_proved::fallible::HopSlotMap;
+    /// # fn main() -> Result<(), Box<dyn std::error::Error>> {
+    /// # let alloc = Global;
+    /// # let mut map: HopSlotMap<DefaultKey, u64> = HopSlotMap::new(alloc)?;
+    /// # let a = map.insert(1)?;
+    /// # let b = map.insert(2)?;
     /// let mut values = map.values();
     /// values.next();
     /// assert_eq!(values.reads(), 1);
+    /// # Ok(())
+    /// # }
     /// ```
     ///
     /// # Proved
@@ -297,6 +361,8 @@ impl<'a, K, V> Values<'a, K, V> {
     /// ```text
     /// ensures { result ≡ self.now.reads }
     /// ```
+    ///
+    /// Words: [`reads`](crate::words#reads-of-slotmap_hop-iter).
     #[inline]
     pub fn reads(&self) -> usize {
         self.pairs.reads()
@@ -352,11 +418,20 @@ impl<K: Key, V> HopSlotMap<K, V> {
     /// the block is. Retired slots are read one by one. No iterator yields mutable references: use
     /// `retain` with a closure that writes and returns `true`.
     ///
-    /// ```ignore
+    /// ```
+    /// # use slotmap_proved::{DefaultKey, Global, Key};
+    /// # use slotmap_proved::fallible::HopSlotMap;
+    /// # fn main() -> Result<(), Box<dyn std::error::Error>> {
+    /// # let alloc = Global;
+    /// # let mut map: HopSlotMap<DefaultKey, u64> = HopSlotMap::new(alloc)?;
+    /// # let a = map.insert(1)?;
+    /// # let b = map.insert(2)?;
     /// let mut pairs = map.iter();
     /// assert_eq!(pairs.next(), Some((a, &1)));
     /// assert_eq!(pairs.next(), Some((b, &2)));
     /// assert_eq!(pairs.next(), None);
+    /// # Ok(())
+    /// # }
     /// ```
     ///
     /// # Proved
@@ -368,6 +443,8 @@ impl<K: Key, V> HopSlotMap<K, V> {
     /// ensures reads { result.reads ≡ 0 }
     /// ensures valid { IsHopContent self.now }
     /// ```
+    ///
+    /// Words: [`content`](crate::words#content-of-slotmap_hop-hopcontent), [`IsHopContent`](crate::words#ishopcontent), [`IsListing`](crate::words#islisting), [`ListsRetired`](crate::words#listsretired), [`live`](crate::words#live), [`reads`](crate::words#reads-of-slotmap_hop-iter), [`rest`](crate::words#rest), [`retired`](crate::words#retired-of-slotmap_hop-iter).
     #[inline]
     pub fn iter(&self) -> Iter<'_, K, V> {
         let slots = self.slots.as_slice();
@@ -383,11 +460,20 @@ impl<K: Key, V> HopSlotMap<K, V> {
     ///
     /// It costs the same as [`HopSlotMap::iter`].
     ///
-    /// ```ignore
+    /// ```
+    /// # use slotmap_proved::{DefaultKey, Global, Key};
+    /// # use slotmap_proved::fallible::HopSlotMap;
+    /// # fn main() -> Result<(), Box<dyn std::error::Error>> {
+    /// # let alloc = Global;
+    /// # let mut map: HopSlotMap<DefaultKey, u64> = HopSlotMap::new(alloc)?;
+    /// # let a = map.insert(1)?;
+    /// # let b = map.insert(2)?;
     /// let mut keys = map.keys();
     /// assert_eq!(keys.next(), Some(a));
     /// assert_eq!(keys.next(), Some(b));
     /// assert_eq!(keys.next(), None);
+    /// # Ok(())
+    /// # }
     /// ```
     ///
     /// # Proved
@@ -399,6 +485,8 @@ impl<K: Key, V> HopSlotMap<K, V> {
     /// ensures reads { result.reads ≡ 0 }
     /// ensures valid { IsHopContent self.now }
     /// ```
+    ///
+    /// Words: [`content`](crate::words#content-of-slotmap_hop-hopcontent), [`IsHopContent`](crate::words#ishopcontent), [`IsKeyListing`](crate::words#iskeylisting), [`ListsRetired`](crate::words#listsretired), [`live`](crate::words#live), [`reads`](crate::words#reads-of-slotmap_hop-iter), [`rest`](crate::words#rest), [`retired`](crate::words#retired-of-slotmap_hop-iter).
     #[inline]
     pub fn keys(&self) -> Keys<'_, K, V> {
         Keys { pairs: self.iter() }
@@ -409,10 +497,19 @@ impl<K: Key, V> HopSlotMap<K, V> {
     /// It costs the same as [`HopSlotMap::iter`]. No iterator yields mutable references: use
     /// `retain` with a closure that writes and returns `true`.
     ///
-    /// ```ignore
+    /// ```
+    /// # use slotmap_proved::{DefaultKey, Global, Key};
+    /// # use slotmap_proved::fallible::HopSlotMap;
+    /// # fn main() -> Result<(), Box<dyn std::error::Error>> {
+    /// # let alloc = Global;
+    /// # let mut map: HopSlotMap<DefaultKey, u64> = HopSlotMap::new(alloc)?;
+    /// # let a = map.insert(1)?;
+    /// # let b = map.insert(2)?;
     /// let mut values = map.values();
     /// assert_eq!(values.next(), Some(&1));
     /// assert_eq!(values.next(), Some(&2));
+    /// # Ok(())
+    /// # }
     /// ```
     ///
     /// # Proved
@@ -424,6 +521,8 @@ impl<K: Key, V> HopSlotMap<K, V> {
     /// ensures reads { result.reads ≡ 0 }
     /// ensures valid { IsHopContent self.now }
     /// ```
+    ///
+    /// Words: [`content`](crate::words#content-of-slotmap_hop-hopcontent), [`IsHopContent`](crate::words#ishopcontent), [`IsValueListing`](crate::words#isvaluelisting), [`ListsRetired`](crate::words#listsretired), [`live`](crate::words#live), [`reads`](crate::words#reads-of-slotmap_hop-iter), [`rest`](crate::words#rest), [`retired`](crate::words#retired-of-slotmap_hop-iter).
     #[inline]
     pub fn values(&self) -> Values<'_, K, V> {
         Values { pairs: self.iter() }

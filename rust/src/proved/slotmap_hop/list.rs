@@ -50,11 +50,20 @@ impl<K: Key, V> HopSlotMap<K, V> {
     /// cloned once. Linear in the number of slots. `from_slots` reads the list back, except that of
     /// a map with 4294967294 slots, which is too long. In Rust `Serialize` writes the same records.
     ///
-    /// ```ignore
+    /// ```
+    /// # use slotmap_proved::{DefaultKey, Global, Key, list};
+    /// # use slotmap_proved::fallible::HopSlotMap;
+    /// # fn main() -> Result<(), Box<dyn std::error::Error>> {
+    /// # let alloc = Global;
+    /// # let mut map: HopSlotMap<DefaultKey, u64> = HopSlotMap::new(alloc)?;
+    /// # let a = map.insert(1)?;
+    /// # let b = map.insert(2)?;
     /// let list = map.to_slots()?;
     /// assert_eq!(list.len(), 3);
     /// assert_eq!(list[a.data().idx() as usize].value, Some(1));
     /// assert_eq!(list[a.data().idx() as usize].version, a.data().version());
+    /// # Ok(())
+    /// # }
     /// ```
     ///
     /// # Proved
@@ -62,12 +71,19 @@ impl<K: Key, V> HopSlotMap<K, V> {
     /// ```text
     /// // The list is that of a copy, and has a clone under each live key.
     /// ensures writes { IfOk result (λ slots. WritesClones V.is_clone true self.now.content slots.items) }
-    /// ensures contents { IfOk result (λ slots. (k : Key) → IsCloneOf V.is_clone (map.get self.now.content.live k) (map.get (start_live slots.items) k)) }
+    /// ensures contents { IfOk result (λ slots.
+    ///     (k : Key) → IsCloneOf V.is_clone (map.get self.now.content.live k) (map.get (start_live slots.items) k)) }
+    ///
     /// // Where clones equal their values, it is the map's own list.
-    /// ensures writes_if_clones_equal { IfOk result (λ slots. ClonesEqual V.is_clone → Writes self.now.content slots.items) }
-    /// ensures contents_if_clones_equal { IfOk result (λ slots. ClonesEqual V.is_clone → start_live slots.items ≡ self.now.content.live) }
+    /// ensures writes_if_clones_equal { IfOk result (λ slots.
+    ///     ClonesEqual V.is_clone → Writes self.now.content slots.items) }
+    /// ensures contents_if_clones_equal { IfOk result (λ slots.
+    ///     ClonesEqual V.is_clone → start_live slots.items ≡ self.now.content.live) }
+    ///
     /// ensures valid { IsHopContent self.now }
     /// ```
+    ///
+    /// Words: [`ClonesEqual`](crate::words#clonesequal), [`content`](crate::words#content-of-slotmap_hop-hopcontent), [`IsCloneOf`](crate::words#iscloneof), [`IsHopContent`](crate::words#ishopcontent), [`Key`](crate::words#key), [`live`](crate::words#live), [`start_live`](crate::words#start_live), [`Writes`](crate::words#writes), [`WritesClones`](crate::words#writesclones).
     #[inline]
     pub fn to_slots(&self) -> Result<Vec<SlotRecord<V>>, OutOfMemory>
     where
@@ -103,7 +119,14 @@ impl<K: Key, V> HopSlotMap<K, V> {
     /// Two passes over the list. In Rust `Deserialize` reads such a list, and version 0 is that of
     /// a vacant slot, so the versions of a slot wrap around.
     ///
-    /// ```ignore
+    /// ```
+    /// # use slotmap_proved::{DefaultKey, Global, Key, KeyData, list, SlotRecord};
+    /// # use slotmap_proved::fallible::{HopSlotMap, Vec};
+    /// # fn main() -> Result<(), Box<dyn std::error::Error>> {
+    /// # let alloc = Global;
+    /// # let mut map: HopSlotMap<DefaultKey, u64> = HopSlotMap::new(alloc)?;
+    /// # let a = map.insert(1)?;
+    /// # let b = map.insert(2)?;
     /// let mut list = Vec::new(alloc);
     /// list.push(SlotRecord { value: None, version: 0 })?;
     /// list.push(SlotRecord { value: Some(7), version: 3 })?;
@@ -111,6 +134,8 @@ impl<K: Key, V> HopSlotMap<K, V> {
     /// let mut made: HopSlotMap<DefaultKey, u64> = HopSlotMap::from_slots(alloc, list)?;
     /// assert_eq!(made.get(DefaultKey::from(KeyData::new(1, 3))), Some(&7));
     /// assert_eq!(made.insert(8)?.data(), KeyData::new(2, 3));
+    /// # Ok(())
+    /// # }
     /// ```
     ///
     /// # Proved
@@ -121,10 +146,13 @@ impl<K: Key, V> HopSlotMap<K, V> {
     /// // The blocks of vacant slots are in their list by ascending index.
     /// ensures ascending { IfOk result (λ made. Ascend 1 made.blocks.others (length list.items)) }
     /// ensures valid { IfOk result IsHopContent }
+    ///
     /// // The errors: the first one that applies is returned.
     /// ensures accepted { IsOk result → Accepts list.items list_limit }
     /// ensures err { IfErr result (RefusesStart list.items list_limit) }
     /// ```
+    ///
+    /// Words: [`Accepts`](crate::words#accepts), [`Ascend`](crate::words#ascend), [`blocks`](crate::words#blocks-of-slotmap_hop-hopcontent), [`content`](crate::words#content-of-slotmap_hop-hopcontent), [`IsHopContent`](crate::words#ishopcontent), [`list_limit`](crate::words#list_limit), [`others`](crate::words#others), [`ReadsAs`](crate::words#readsas), [`RefusesStart`](crate::words#refusesstart).
     #[inline]
     pub fn from_slots(alloc: Global, list: Vec<SlotRecord<V>>) -> Result<Self, SlotsError> {
         check_slots(&list, LIST_LIMIT)?;

@@ -15,7 +15,7 @@
 //! Each example comes after these lines:
 //!
 //! ```text
-//! let alloc = rt.alloc();
+//! let alloc = Global;
 //! let mut map: HopSlotMap<DefaultKey, u64> = HopSlotMap::new(alloc)?;
 //! let a = map.insert(1)?;
 //! let b = map.insert(2)?;
@@ -65,11 +65,20 @@ use crate::rt::std::marker::PhantomData;
 /// slot to the blocks beside it. If there is
 /// none, it appends a new block to the list. An iterator skips a block in one step.
 ///
-/// ```ignore
+/// ```
+/// # use slotmap_proved::{DefaultKey, Global, Key};
+/// # use slotmap_proved::fallible::HopSlotMap;
+/// # fn main() -> Result<(), Box<dyn std::error::Error>> {
+/// # let alloc = Global;
+/// # let mut map: HopSlotMap<DefaultKey, u64> = HopSlotMap::new(alloc)?;
+/// # let a = map.insert(1)?;
+/// # let b = map.insert(2)?;
 /// let key = map.insert(5)?;
 /// assert_eq!(map.get(key), Some(&5));
 /// assert_eq!(map.remove(key), Some(5));
 /// assert!(!map.contains_key(key));
+/// # Ok(())
+/// # }
 /// ```
 pub struct HopSlotMap<K, V> {
     // Slot 0 is the sentinel: no key uses it.
@@ -93,10 +102,19 @@ impl<V> HopSlotMap<DefaultKey, V> {
     /// It allocates slot 0, which no key uses, and fails with `Memory` if memory runs out. Constant time,
     /// the allocations aside.
     ///
-    /// ```ignore
+    /// ```
+    /// # use slotmap_proved::{DefaultKey, Global, Key, KeyData};
+    /// # use slotmap_proved::fallible::HopSlotMap;
+    /// # fn main() -> Result<(), Box<dyn std::error::Error>> {
+    /// # let alloc = Global;
+    /// # let mut map: HopSlotMap<DefaultKey, u64> = HopSlotMap::new(alloc)?;
+    /// # let a = map.insert(1)?;
+    /// # let b = map.insert(2)?;
     /// let mut empty: HopSlotMap<DefaultKey, u64> = HopSlotMap::new(alloc)?;
     /// assert!(empty.is_empty());
     /// assert_eq!(empty.insert(5)?.data(), KeyData::new(1, 1));
+    /// # Ok(())
+    /// # }
     /// ```
     ///
     /// # Proved
@@ -107,6 +125,8 @@ impl<V> HopSlotMap<DefaultKey, V> {
     /// ensures err { IfErr result (λ error. error ≡ ReserveError.Memory) }
     /// ensures valid { IfOk result IsHopContent }
     /// ```
+    ///
+    /// Words: [`blocks`](crate::words#blocks-of-slotmap_hop-hopcontent), [`content`](crate::words#content-of-slotmap_hop-hopcontent), [`IsHopContent`](crate::words#ishopcontent), [`IsNew`](crate::words#isnew), [`NoBlocks`](crate::words#noblocks).
     #[inline]
     pub fn new(alloc: Global) -> Result<Self, ReserveError> {
         HopSlotMap::with_key(alloc)
@@ -117,10 +137,19 @@ impl<V> HopSlotMap<DefaultKey, V> {
     /// The next `capacity` inserts succeed. It fails with `TooGreat` if `capacity` is over
     /// 4294967294, and with `Memory` if memory runs out. Constant time, the allocations aside.
     ///
-    /// ```ignore
+    /// ```
+    /// # use slotmap_proved::{DefaultKey, Global, Key};
+    /// # use slotmap_proved::fallible::HopSlotMap;
+    /// # fn main() -> Result<(), Box<dyn std::error::Error>> {
+    /// # let alloc = Global;
+    /// # let mut map: HopSlotMap<DefaultKey, u64> = HopSlotMap::new(alloc)?;
+    /// # let a = map.insert(1)?;
+    /// # let b = map.insert(2)?;
     /// let roomy: HopSlotMap<DefaultKey, u64> = HopSlotMap::with_capacity(alloc, 10)?;
     /// assert!(roomy.is_empty());
     /// assert!(roomy.capacity() >= 10);
+    /// # Ok(())
+    /// # }
     /// ```
     ///
     /// # Proved
@@ -133,6 +162,8 @@ impl<V> HopSlotMap<DefaultKey, V> {
     /// ensures err { IfErr result (RefusesCapacity capacity) }
     /// ensures valid { IfOk result IsHopContent }
     /// ```
+    ///
+    /// Words: [`blocks`](crate::words#blocks-of-slotmap_hop-hopcontent), [`capacity`](crate::words#capacity-of-slotmap_core-content), [`content`](crate::words#content-of-slotmap_hop-hopcontent), [`IsHopContent`](crate::words#ishopcontent), [`IsNew`](crate::words#isnew), [`NoBlocks`](crate::words#noblocks), [`RefusesCapacity`](crate::words#refusescapacity), [`room`](crate::words#room-of-slotmap_core-content).
     #[inline]
     pub fn with_capacity(alloc: Global, capacity: usize) -> Result<Self, ReserveError> {
         HopSlotMap::with_capacity_and_key(alloc, capacity)
@@ -145,10 +176,19 @@ impl<K: Key, V> HopSlotMap<K, V> {
     /// It allocates slot 0, which no key uses, and fails with `Memory` if memory runs out. Constant time,
     /// the allocations aside.
     ///
-    /// ```ignore
+    /// ```
+    /// # use slotmap_proved::{DefaultKey, Global, Key, NodeKey};
+    /// # use slotmap_proved::fallible::HopSlotMap;
+    /// # fn main() -> Result<(), Box<dyn std::error::Error>> {
+    /// # let alloc = Global;
+    /// # let mut map: HopSlotMap<DefaultKey, u64> = HopSlotMap::new(alloc)?;
+    /// # let a = map.insert(1)?;
+    /// # let b = map.insert(2)?;
     /// let mut nodes: HopSlotMap<NodeKey, u64> = HopSlotMap::with_key(alloc)?;
     /// let key: NodeKey = nodes.insert(5)?;
     /// assert_eq!(nodes.get(key), Some(&5));
+    /// # Ok(())
+    /// # }
     /// ```
     ///
     /// # Proved
@@ -159,6 +199,8 @@ impl<K: Key, V> HopSlotMap<K, V> {
     /// ensures err { IfErr result (λ error. error ≡ ReserveError.Memory) }
     /// ensures valid { IfOk result IsHopContent }
     /// ```
+    ///
+    /// Words: [`blocks`](crate::words#blocks-of-slotmap_hop-hopcontent), [`content`](crate::words#content-of-slotmap_hop-hopcontent), [`IsHopContent`](crate::words#ishopcontent), [`IsNew`](crate::words#isnew), [`NoBlocks`](crate::words#noblocks).
     #[inline]
     pub fn with_key(alloc: Global) -> Result<Self, ReserveError> {
         HopSlotMap::with_capacity_and_key(alloc, 0)
@@ -169,9 +211,18 @@ impl<K: Key, V> HopSlotMap<K, V> {
     /// The next `capacity` inserts succeed. It fails with `TooGreat` if `capacity` is over
     /// 4294967294, and with `Memory` if memory runs out. Constant time, the allocations aside.
     ///
-    /// ```ignore
+    /// ```
+    /// # use slotmap_proved::{DefaultKey, Global, Key, NodeKey};
+    /// # use slotmap_proved::fallible::HopSlotMap;
+    /// # fn main() -> Result<(), Box<dyn std::error::Error>> {
+    /// # let alloc = Global;
+    /// # let mut map: HopSlotMap<DefaultKey, u64> = HopSlotMap::new(alloc)?;
+    /// # let a = map.insert(1)?;
+    /// # let b = map.insert(2)?;
     /// let nodes: HopSlotMap<NodeKey, u64> = HopSlotMap::with_capacity_and_key(alloc, 10)?;
     /// assert!(nodes.capacity() >= 10);
+    /// # Ok(())
+    /// # }
     /// ```
     ///
     /// # Proved
@@ -184,6 +235,8 @@ impl<K: Key, V> HopSlotMap<K, V> {
     /// ensures err { IfErr result (RefusesCapacity capacity) }
     /// ensures valid { IfOk result IsHopContent }
     /// ```
+    ///
+    /// Words: [`blocks`](crate::words#blocks-of-slotmap_hop-hopcontent), [`capacity`](crate::words#capacity-of-slotmap_core-content), [`content`](crate::words#content-of-slotmap_hop-hopcontent), [`IsHopContent`](crate::words#ishopcontent), [`IsNew`](crate::words#isnew), [`NoBlocks`](crate::words#noblocks), [`RefusesCapacity`](crate::words#refusescapacity), [`room`](crate::words#room-of-slotmap_core-content).
     #[inline]
     pub fn with_capacity_and_key(alloc: Global, capacity: usize) -> Result<Self, ReserveError> {
         if capacity > MOST_KEYS {
@@ -203,10 +256,19 @@ impl<K: Key, V> HopSlotMap<K, V> {
     ///
     /// Constant time.
     ///
-    /// ```ignore
+    /// ```
+    /// # use slotmap_proved::{DefaultKey, Global, Key};
+    /// # use slotmap_proved::fallible::HopSlotMap;
+    /// # fn main() -> Result<(), Box<dyn std::error::Error>> {
+    /// # let alloc = Global;
+    /// # let mut map: HopSlotMap<DefaultKey, u64> = HopSlotMap::new(alloc)?;
+    /// # let a = map.insert(1)?;
+    /// # let b = map.insert(2)?;
     /// assert_eq!(map.len(), 2);
     /// map.remove(a);
     /// assert_eq!(map.len(), 1);
+    /// # Ok(())
+    /// # }
     /// ```
     ///
     /// # Proved
@@ -215,6 +277,8 @@ impl<K: Key, V> HopSlotMap<K, V> {
     /// ensures value { result ≡ map.len self.now.content.live }
     /// ensures valid { IsHopContent self.now }
     /// ```
+    ///
+    /// Words: [`content`](crate::words#content-of-slotmap_hop-hopcontent), [`IsHopContent`](crate::words#ishopcontent), [`live`](crate::words#live).
     #[inline]
     pub fn len(&self) -> usize {
         self.note_valid();
@@ -225,10 +289,19 @@ impl<K: Key, V> HopSlotMap<K, V> {
     ///
     /// Constant time.
     ///
-    /// ```ignore
+    /// ```
+    /// # use slotmap_proved::{DefaultKey, Global, Key};
+    /// # use slotmap_proved::fallible::HopSlotMap;
+    /// # fn main() -> Result<(), Box<dyn std::error::Error>> {
+    /// # let alloc = Global;
+    /// # let mut map: HopSlotMap<DefaultKey, u64> = HopSlotMap::new(alloc)?;
+    /// # let a = map.insert(1)?;
+    /// # let b = map.insert(2)?;
     /// assert!(!map.is_empty());
     /// map.clear();
     /// assert!(map.is_empty());
+    /// # Ok(())
+    /// # }
     /// ```
     ///
     /// # Proved
@@ -237,6 +310,8 @@ impl<K: Key, V> HopSlotMap<K, V> {
     /// ensures value { IsTrue result ↔ (map.len self.now.content.live ≡ 0) }
     /// ensures valid { IsHopContent self.now }
     /// ```
+    ///
+    /// Words: [`content`](crate::words#content-of-slotmap_hop-hopcontent), [`IsHopContent`](crate::words#ishopcontent), [`live`](crate::words#live).
     #[inline]
     pub fn is_empty(&self) -> bool {
         self.len() == 0
@@ -247,10 +322,19 @@ impl<K: Key, V> HopSlotMap<K, V> {
     /// The slots of live and retired keys count, as do vacant slots and those that aren't made yet.
     /// Constant time.
     ///
-    /// ```ignore
+    /// ```
+    /// # use slotmap_proved::{DefaultKey, Global, Key};
+    /// # use slotmap_proved::fallible::HopSlotMap;
+    /// # fn main() -> Result<(), Box<dyn std::error::Error>> {
+    /// # let alloc = Global;
+    /// # let mut map: HopSlotMap<DefaultKey, u64> = HopSlotMap::new(alloc)?;
+    /// # let a = map.insert(1)?;
+    /// # let b = map.insert(2)?;
     /// let before = map.capacity();
     /// map.clear();
     /// assert_eq!(map.capacity(), before);
+    /// # Ok(())
+    /// # }
     /// ```
     ///
     /// # Proved
@@ -259,6 +343,8 @@ impl<K: Key, V> HopSlotMap<K, V> {
     /// ensures value { result ≡ self.now.content.capacity }
     /// ensures valid { IsHopContent self.now }
     /// ```
+    ///
+    /// Words: [`capacity`](crate::words#capacity-of-slotmap_core-content), [`content`](crate::words#content-of-slotmap_hop-hopcontent), [`IsHopContent`](crate::words#ishopcontent).
     #[inline]
     pub fn capacity(&self) -> usize {
         self.note_valid();
@@ -283,13 +369,22 @@ impl<K: Key, V> HopSlotMap<K, V> {
     /// If there is room already, the call succeeds and nothing changes. Linear in the number of
     /// slots if the vector grows, else constant time.
     ///
-    /// ```ignore
+    /// ```
+    /// # use slotmap_proved::{DefaultKey, Global, Key};
+    /// # use slotmap_proved::fallible::HopSlotMap;
+    /// # fn main() -> Result<(), Box<dyn std::error::Error>> {
+    /// # let alloc = Global;
+    /// # let mut map: HopSlotMap<DefaultKey, u64> = HopSlotMap::new(alloc)?;
+    /// # let a = map.insert(1)?;
+    /// # let b = map.insert(2)?;
     /// map.reserve(10)?;
     /// let capacity = map.capacity();
     /// for i in 0..10 {
     ///     map.insert(i)?;
     /// }
     /// assert_eq!(map.capacity(), capacity);
+    /// # Ok(())
+    /// # }
     /// ```
     ///
     /// # Proved
@@ -299,6 +394,8 @@ impl<K: Key, V> HopSlotMap<K, V> {
     /// ensures err { IfErr result (RefusesCapacity (used self.old.content + additional)) }
     /// ensures reuses { additional ≤ map.len self.old.content.next → IsOk result }
     /// ```
+    ///
+    /// Words: [`content`](crate::words#content-of-slotmap_hop-hopcontent), [`MakesHopRoom`](crate::words#makeshoproom), [`next`](crate::words#next), [`RefusesCapacity`](crate::words#refusescapacity), [`used`](crate::words#used).
     #[inline(never)]
     pub fn reserve(&mut self, additional: usize) -> Result<(), ReserveError> {
         let used = self.used();
@@ -317,9 +414,18 @@ impl<K: Key, V> HopSlotMap<K, V> {
     /// Here `reserve` returns a `Result` too; in Rust it aborts if memory runs out. Costs as
     /// `reserve`.
     ///
-    /// ```ignore
+    /// ```
+    /// # use slotmap_proved::{DefaultKey, Global, Key, ReserveError};
+    /// # use slotmap_proved::fallible::HopSlotMap;
+    /// # fn main() -> Result<(), Box<dyn std::error::Error>> {
+    /// # let alloc = Global;
+    /// # let mut map: HopSlotMap<DefaultKey, u64> = HopSlotMap::new(alloc)?;
+    /// # let a = map.insert(1)?;
+    /// # let b = map.insert(2)?;
     /// assert!(map.try_reserve(10).is_ok());
     /// assert!(matches!(map.try_reserve(4294967295), Err(ReserveError::TooGreat)));
+    /// # Ok(())
+    /// # }
     /// ```
     ///
     /// # Proved
@@ -329,6 +435,8 @@ impl<K: Key, V> HopSlotMap<K, V> {
     /// ensures err { IfErr result (RefusesCapacity (used self.old.content + additional)) }
     /// ensures reuses { additional ≤ map.len self.old.content.next → IsOk result }
     /// ```
+    ///
+    /// Words: [`content`](crate::words#content-of-slotmap_hop-hopcontent), [`MakesHopRoom`](crate::words#makeshoproom), [`next`](crate::words#next), [`RefusesCapacity`](crate::words#refusescapacity), [`used`](crate::words#used).
     #[inline]
     pub fn try_reserve(&mut self, additional: usize) -> Result<(), ReserveError> {
         self.reserve(additional)

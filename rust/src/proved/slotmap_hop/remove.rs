@@ -16,10 +16,19 @@ impl<K: Key, V> HopSlotMap<K, V> {
     /// 4294967295, the last one, the slot is retired and joins no block; in Rust its versions wrap
     /// around. Constant time; allocates nothing.
     ///
-    /// ```ignore
+    /// ```
+    /// # use slotmap_proved::{DefaultKey, Global, Key};
+    /// # use slotmap_proved::fallible::HopSlotMap;
+    /// # fn main() -> Result<(), Box<dyn std::error::Error>> {
+    /// # let alloc = Global;
+    /// # let mut map: HopSlotMap<DefaultKey, u64> = HopSlotMap::new(alloc)?;
+    /// # let a = map.insert(1)?;
+    /// # let b = map.insert(2)?;
     /// assert_eq!(map.remove(a), Some(1));
     /// assert_eq!(map.remove(a), None);
     /// assert_eq!(map.get(b), Some(&2));
+    /// # Ok(())
+    /// # }
     /// ```
     ///
     /// # Proved
@@ -32,6 +41,8 @@ impl<K: Key, V> HopSlotMap<K, V> {
     /// ensures unchanged { IfNone result (self.new ≡ self.old) }
     /// ensures valid { StaysHop self.old self.new }
     /// ```
+    ///
+    /// Words: [`blocks`](crate::words#blocks-of-slotmap_hop-hopcontent), [`blocks_without`](crate::words#blocks_without), [`content`](crate::words#content-of-slotmap_hop-hopcontent), [`live`](crate::words#live), [`Removes`](crate::words#removes), [`StaysHop`](crate::words#stayshop).
     #[inline(always)]
     pub fn remove(&mut self, key: K) -> Option<V> {
         self.live_index(key)?;

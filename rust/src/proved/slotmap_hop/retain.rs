@@ -15,10 +15,19 @@ impl<K: Key, V> HopSlotMap<K, V> {
     /// slots is skipped in one step; retired slots are skipped one by one. At most linear in the
     /// number of slots.
     ///
-    /// ```ignore
+    /// ```
+    /// # use slotmap_proved::{DefaultKey, Global, Key};
+    /// # use slotmap_proved::fallible::HopSlotMap;
+    /// # fn main() -> Result<(), Box<dyn std::error::Error>> {
+    /// # let alloc = Global;
+    /// # let mut map: HopSlotMap<DefaultKey, u64> = HopSlotMap::new(alloc)?;
+    /// # let a = map.insert(1)?;
+    /// # let b = map.insert(2)?;
     /// map.retain(|_, value| *value % 2 == 0);
     /// assert_eq!(map.get(a), None);
     /// assert_eq!(map.get(b), Some(&2));
+    /// # Ok(())
+    /// # }
     /// ```
     ///
     /// # Proved
@@ -31,6 +40,8 @@ impl<K: Key, V> HopSlotMap<K, V> {
     /// ensures leaves { Leaves self.old.content self.new.content }
     /// ensures valid { StaysHop self.old self.new }
     /// ```
+    ///
+    /// Words: [`CallableOnEach`](crate::words#callableoneach), [`content`](crate::words#content-of-slotmap_hop-hopcontent), [`Leaves`](crate::words#leaves), [`live`](crate::words#live), [`RetainsBy`](crate::words#retainsby), [`RetainsByIndex`](crate::words#retainsbyindex), [`StaysHop`](crate::words#stayshop).
     #[inline]
     pub fn retain<F: FnMut(K, &mut V) -> bool>(&mut self, mut f: F)
     where

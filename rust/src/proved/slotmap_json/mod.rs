@@ -18,9 +18,15 @@ use crate::rt::std::alloc::Global;
 ///
 /// It fails only if memory runs out. Constant time.
 ///
-/// ```ignore
+/// ```
+/// # use slotmap_proved::{DefaultKey, Global, Key, KeyData};
+/// # use slotmap_proved::json::key_to_value;
+/// # fn main() -> Result<(), Box<dyn std::error::Error>> {
+/// # let alloc = Global;
 /// let value = key_to_value(alloc, DefaultKey::from(KeyData::new(2, 3)))?;
-/// assert_eq!(value.to_string(alloc)?.as_str(), "{\"idx\":2,\"version\":3}");
+/// assert_eq!(value.to_string().as_str(), "{\"idx\":2,\"version\":3}");
+/// # Ok(())
+/// # }
 /// ```
 ///
 /// # Proved
@@ -29,6 +35,8 @@ use crate::rt::std::alloc::Global;
 /// ensures value { IfOk result (λ value. view value ≡ key_json (K.data_of key)) }
 /// ensures valid { IsKey (K.data_of key) }
 /// ```
+///
+/// Words: [`IsKey`](crate::words#iskey), [`key_json`](crate::words#key_json).
 #[inline]
 pub fn key_to_value<K: Key>(alloc: Global, key: K) -> Result<Value, OutOfMemory> {
     let data = key.data();
@@ -43,10 +51,16 @@ pub fn key_to_value<K: Key>(alloc: Global, key: K) -> Result<Value, OutOfMemory>
 /// even version is raised to the next odd one, and the index 4294967295 gives the null key. The
 /// call allocates nothing. It costs two look-ups among the members.
 ///
-/// ```ignore
-/// let value = Value::from_str(alloc, "{\"version\":4,\"idx\":0,\"x\":true}")?;
+/// ```
+/// # use slotmap_proved::{DefaultKey, Global, Key, KeyData};
+/// # use slotmap_proved::json::key_from_value;
+/// # fn main() -> Result<(), Box<dyn std::error::Error>> {
+/// # let alloc = Global;
+/// let value = serde_json::json!({"version":4,"idx":0,"x":true});
 /// let key: DefaultKey = key_from_value(&value)?;
 /// assert_eq!(key.data(), KeyData::new(0, 5));
+/// # Ok(())
+/// # }
 /// ```
 ///
 /// # Proved
@@ -55,6 +69,8 @@ pub fn key_to_value<K: Key>(alloc: Global, key: K) -> Result<Value, OutOfMemory>
 /// ensures ok { option_map K.data_of (result_ok result) ≡ read_key (view value.now) }
 /// ensures err { IfErr result (λ error. error ≡ Shape) }
 /// ```
+///
+/// Words: [`read_key`](crate::words#read_key).
 #[inline]
 pub fn key_from_value<K: Key>(value: &Value) -> Result<K, JsonError> {
     let idx = u32_member(value, "idx").ok_or(JsonError::Shape)?;
@@ -69,6 +85,8 @@ pub fn key_from_value<K: Key>(value: &Value) -> Result<K, JsonError> {
 /// ```text
 /// ensures { result ≡ u32_at name.now (view value.now) }
 /// ```
+///
+/// Words: [`u32_at`](crate::words#u32_at).
 #[inline]
 fn u32_member(value: &Value, name: &str) -> Option<u32> {
     let number = value.get(name)?.as_u64()?;
@@ -83,14 +101,21 @@ fn u32_member(value: &Value, name: &str) -> Option<u32> {
 /// It fails with `OutOfMemory` if memory runs out or `f` fails; an empty list never fails. `f` is
 /// called at most once for each value, in order.
 ///
-/// ```ignore
+/// ```
+/// # use slotmap_proved::{Global, Key, list, SlotRecord};
+/// # use slotmap_proved::json::slots_to_value;
+/// # use serde_json::Value;
+/// # fn main() -> Result<(), Box<dyn std::error::Error>> {
+/// # let alloc = Global;
 /// let list = [
 ///     SlotRecord { value: None, version: 0 },
 ///     SlotRecord { value: Some(7), version: 1 },
 /// ];
 /// let value = slots_to_value(alloc, &list, |value: &u64| Ok(Value::from(*value)))?;
 /// let text = "[{\"value\":null,\"version\":0},{\"value\":7,\"version\":1}]";
-/// assert_eq!(value.to_string(alloc)?.as_str(), text);
+/// assert_eq!(value.to_string().as_str(), text);
+/// # Ok(())
+/// # }
 /// ```
 ///
 /// # Proved
@@ -100,6 +125,8 @@ fn u32_member(value: &Value, name: &str) -> Option<u32> {
 /// ensures ok { IfOk result (λ value. IsSlotsJson (GivesJson F.Fn f) list.now (view value)) }
 /// ensures err { OnErr result (list.now ≢ []) }
 /// ```
+///
+/// Words: [`GivesJson`](crate::words#givesjson), [`IsSlotsJson`](crate::words#isslotsjson).
 #[inline]
 pub fn slots_to_value<V, F: Fn(&V) -> Result<Value, OutOfMemory>>(
     alloc: Global,
@@ -144,13 +171,20 @@ fn slot_value(alloc: Global, value: Value, version: u32) -> Result<Value, OutOfM
 ///
 /// `g` is called at most once for each element.
 ///
-/// ```ignore
-/// let value = Value::from_str(alloc, "[{\"version\":0},{\"value\":7,\"version\":1}]")?;
+/// ```
+/// # use slotmap_proved::{Global, JsonError, Key, list};
+/// # use slotmap_proved::json::slots_from_value;
+/// # use serde_json::Value;
+/// # fn main() -> Result<(), Box<dyn std::error::Error>> {
+/// # let alloc = Global;
+/// let value = serde_json::json!([{"version":0},{"value":7,"version":1}]);
 /// let list = slots_from_value(alloc, &value, |value: &Value| {
 ///     value.as_u64().ok_or(JsonError::Shape)
 /// })?;
 /// assert_eq!(list.len(), 2);
 /// assert_eq!(list[1].value, Some(7));
+/// # Ok(())
+/// # }
 /// ```
 ///
 /// # Proved
@@ -160,6 +194,8 @@ fn slot_value(alloc: Global, value: Value, version: u32) -> Result<Value, OutOfM
 /// ensures ok { IfOk result (λ slots. IsReadAs (ReadsJson G.Fn g) (view value.now) slots.items) }
 /// ensures err { IfErr result (IsRefused (ReadsJson G.Fn g) (view value.now)) }
 /// ```
+///
+/// Words: [`IsReadAs`](crate::words#isreadas), [`IsRefused`](crate::words#isrefused), [`ReadsJson`](crate::words#readsjson).
 #[inline]
 pub fn slots_from_value<V, G: Fn(&Value) -> Result<V, JsonError>>(
     alloc: Global,
@@ -189,18 +225,18 @@ where
 ///
 /// It costs two look-ups among the members, and at most one call of `g`.
 ///
-/// ```ignore
-/// let value = Value::from_str(alloc, "{\"value\":7,\"version\":1}")?;
+/// ```
+/// # use slotmap_proved::{Global, JsonError, Key};
+/// # use slotmap_proved::json::slot_from_value;
+/// # use serde_json::Value;
+/// # fn main() -> Result<(), Box<dyn std::error::Error>> {
+/// # let alloc = Global;
+/// let value = serde_json::json!({"value":7,"version":1});
 /// let slot = slot_from_value(&value, &|value: &Value| value.as_u64().ok_or(JsonError::Shape))?;
 /// assert_eq!(slot.version, 1);
 /// assert_eq!(slot.value, Some(7));
-/// ```
-///
-/// # Proved
-///
-/// ```text
-/// requires { G.IsAlwaysCallable g.now }
-/// ensures { ReadsSlot (ReadsJson G.Fn g.now) (view element.now) result }
+/// # Ok(())
+/// # }
 /// ```
 #[inline]
 pub fn slot_from_value<V, G: Fn(&Value) -> Result<V, JsonError>>(
@@ -227,6 +263,8 @@ pub fn slot_from_value<V, G: Fn(&Value) -> Result<V, JsonError>>(
 /// ```text
 /// ensures { option_map (λ v. view v.now) result ≡ value_member (view element.now) }
 /// ```
+///
+/// Words: [`value_member`](crate::words#value_member).
 #[inline]
 fn value_member(element: &Value) -> Option<&Value> {
     element.get("value").filter(|value| !value.is_null())

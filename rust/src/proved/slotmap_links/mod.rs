@@ -301,6 +301,8 @@ impl Links {
     /// requires { owner < length self.now.lists }
     /// ensures { result ≡ first_or (list_of self.now owner) None }
     /// ```
+    ///
+    /// Words: [`first_or`](crate::words#first_or-of-slotmap_links-lists).
     #[inline]
     pub(crate) fn first(&self, owner: u32) -> Option<u32> {
         option_of(self.ends[owner as usize].first)

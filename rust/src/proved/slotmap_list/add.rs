@@ -41,12 +41,18 @@ impl<K: Key, T> StableList<K, T> {
     /// If a slot is vacant or room was reserved, it can't fail, and the capacity stays. If the call
     /// fails, the error holds the value, and the list has the same elements.
     ///
-    /// ```ignore
+    /// ```
+    /// # use slotmap_proved::{Global, Key, list};
+    /// # use slotmap_proved::list::StableList;
+    /// # fn main() -> Result<(), Box<dyn std::error::Error>> {
+    /// # let alloc = Global;
     /// let mut list = StableList::new(alloc)?;
     /// let one = list.push_back(1)?;
     /// list.push_back(2)?;
     /// assert_eq!(list.first(), Some(one));
     /// assert_eq!(list.to_vec(alloc)?.as_slice(), [1, 2].as_slice());
+    /// # Ok(())
+    /// # }
     /// ```
     ///
     /// # Proved
@@ -67,6 +73,8 @@ impl<K: Key, T> StableList<K, T> {
     /// ensures keeps { OnErr result (Keeps self.old.cursors self.new.cursors) }
     /// ensures gone { KeepsSpent self.old.cursors self.new.cursors }
     /// ```
+    ///
+    /// Words: [`capacity`](crate::words#capacity-of-slotmap_core-content), [`cursors`](crate::words#cursors-of-slotmap_list-sequence), [`elements`](crate::words#elements), [`HasVacant`](crate::words#hasvacant), [`Inserts`](crate::words#inserts), [`IsSpent`](crate::words#isspent), [`Keeps`](crate::words#keeps), [`KeepsSpent`](crate::words#keepsspent), [`last_or`](crate::words#last_or-of-slotmap_list-sequence), [`memory`](crate::words#memory-of-slotmap_list-sequence), [`RefusesPush`](crate::words#refusespush), [`room`](crate::words#room-of-slotmap_core-content), [`used`](crate::words#used), [`value_of`](crate::words#value_of-of-slotmap_list-sequence).
     #[inline]
     pub fn push_back(&mut self, value: T) -> Result<K, PushError<T>> {
         self.put(Place::Back, value)
@@ -77,12 +85,18 @@ impl<K: Key, T> StableList<K, T> {
     /// If a slot is vacant or room was reserved, it can't fail, and the capacity stays. If the call
     /// fails, the error holds the value, and the list has the same elements.
     ///
-    /// ```ignore
+    /// ```
+    /// # use slotmap_proved::{Global, Key, list};
+    /// # use slotmap_proved::list::StableList;
+    /// # fn main() -> Result<(), Box<dyn std::error::Error>> {
+    /// # let alloc = Global;
     /// let mut list = StableList::new(alloc)?;
     /// let one = list.push_back(1)?;
     /// list.push_front(2)?;
     /// assert_eq!(list.last(), Some(one));
     /// assert_eq!(list.to_vec(alloc)?.as_slice(), [2, 1].as_slice());
+    /// # Ok(())
+    /// # }
     /// ```
     ///
     /// # Proved
@@ -103,6 +117,8 @@ impl<K: Key, T> StableList<K, T> {
     /// ensures keeps { OnErr result (Keeps self.old.cursors self.new.cursors) }
     /// ensures gone { KeepsSpent self.old.cursors self.new.cursors }
     /// ```
+    ///
+    /// Words: [`capacity`](crate::words#capacity-of-slotmap_core-content), [`cursors`](crate::words#cursors-of-slotmap_list-sequence), [`elements`](crate::words#elements), [`first_or`](crate::words#first_or-of-slotmap_list-sequence), [`HasVacant`](crate::words#hasvacant), [`Inserts`](crate::words#inserts), [`IsSpent`](crate::words#isspent), [`Keeps`](crate::words#keeps), [`KeepsSpent`](crate::words#keepsspent), [`memory`](crate::words#memory-of-slotmap_list-sequence), [`RefusesPush`](crate::words#refusespush), [`room`](crate::words#room-of-slotmap_core-content), [`used`](crate::words#used), [`value_of`](crate::words#value_of-of-slotmap_list-sequence).
     #[inline]
     pub fn push_front(&mut self, value: T) -> Result<K, PushError<T>> {
         self.put(Place::Front, value)
@@ -127,13 +143,19 @@ impl<K: Key, T> StableList<K, T> {
     /// slot is vacant or room was reserved, it fails for no other reason, and the capacity stays. If the
     /// call fails, the error holds the value, and the list has the same elements.
     ///
-    /// ```ignore
+    /// ```
+    /// # use slotmap_proved::{Global, Key, list};
+    /// # use slotmap_proved::list::{PlaceError, StableList};
+    /// # fn main() -> Result<(), Box<dyn std::error::Error>> {
+    /// # let alloc = Global;
     /// let mut list = StableList::new(alloc)?;
     /// let one = list.push_back(1)?;
     /// list.insert_after(one, 2)?;
     /// assert_eq!(list.to_vec(alloc)?.as_slice(), [1, 2].as_slice());
     /// list.remove(one);
     /// assert!(matches!(list.insert_after(one, 3), Err(PlaceError::Gone(3))));
+    /// # Ok(())
+    /// # }
     /// ```
     ///
     /// # Proved
@@ -156,6 +178,8 @@ impl<K: Key, T> StableList<K, T> {
     /// ensures keeps { OnErr result (Keeps self.old.cursors self.new.cursors) }
     /// ensures gone { KeepsSpent self.old.cursors self.new.cursors }
     /// ```
+    ///
+    /// Words: [`capacity`](crate::words#capacity-of-slotmap_core-content), [`cursors`](crate::words#cursors-of-slotmap_list-sequence), [`elements`](crate::words#elements), [`HasVacant`](crate::words#hasvacant), [`Inserts`](crate::words#inserts), [`IsSpent`](crate::words#isspent), [`Keeps`](crate::words#keeps), [`KeepsSpent`](crate::words#keepsspent), [`key_after`](crate::words#key_after-of-slotmap_list-sequence), [`memory`](crate::words#memory-of-slotmap_list-sequence), [`put_after`](crate::words#put_after), [`RefusesPlace`](crate::words#refusesplace), [`room`](crate::words#room-of-slotmap_core-content), [`used`](crate::words#used), [`value_of`](crate::words#value_of-of-slotmap_list-sequence).
     #[inline]
     pub fn insert_after(&mut self, cursor: K, value: T) -> Result<K, PlaceError<T>> {
         self.insert(Side::After, cursor, value)
@@ -167,13 +191,19 @@ impl<K: Key, T> StableList<K, T> {
     /// slot is vacant or room was reserved, it fails for no other reason, and the capacity stays. If the
     /// call fails, the error holds the value, and the list has the same elements.
     ///
-    /// ```ignore
+    /// ```
+    /// # use slotmap_proved::{Global, Key, list};
+    /// # use slotmap_proved::list::{PlaceError, StableList};
+    /// # fn main() -> Result<(), Box<dyn std::error::Error>> {
+    /// # let alloc = Global;
     /// let mut list = StableList::new(alloc)?;
     /// let one = list.push_back(1)?;
     /// list.insert_before(one, 2)?;
     /// assert_eq!(list.to_vec(alloc)?.as_slice(), [2, 1].as_slice());
     /// list.remove(one);
     /// assert!(matches!(list.insert_before(one, 3), Err(PlaceError::Gone(3))));
+    /// # Ok(())
+    /// # }
     /// ```
     ///
     /// # Proved
@@ -196,6 +226,8 @@ impl<K: Key, T> StableList<K, T> {
     /// ensures keeps { OnErr result (Keeps self.old.cursors self.new.cursors) }
     /// ensures gone { KeepsSpent self.old.cursors self.new.cursors }
     /// ```
+    ///
+    /// Words: [`capacity`](crate::words#capacity-of-slotmap_core-content), [`cursors`](crate::words#cursors-of-slotmap_list-sequence), [`elements`](crate::words#elements), [`HasVacant`](crate::words#hasvacant), [`Inserts`](crate::words#inserts), [`IsSpent`](crate::words#isspent), [`Keeps`](crate::words#keeps), [`KeepsSpent`](crate::words#keepsspent), [`key_before`](crate::words#key_before), [`memory`](crate::words#memory-of-slotmap_list-sequence), [`put_before`](crate::words#put_before), [`RefusesPlace`](crate::words#refusesplace), [`room`](crate::words#room-of-slotmap_core-content), [`used`](crate::words#used), [`value_of`](crate::words#value_of-of-slotmap_list-sequence).
     #[inline]
     pub fn insert_before(&mut self, cursor: K, value: T) -> Result<K, PlaceError<T>> {
         self.insert(Side::Before, cursor, value)

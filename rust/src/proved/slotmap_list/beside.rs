@@ -13,12 +13,18 @@ impl<K: Key, T> StableList<K, T> {
     ///
     /// It is [`StableList::next`] and [`StableList::get`] in one, with one look-up less. Constant time.
     ///
-    /// ```ignore
+    /// ```
+    /// # use slotmap_proved::{Global, Key, list};
+    /// # use slotmap_proved::list::StableList;
+    /// # fn main() -> Result<(), Box<dyn std::error::Error>> {
+    /// # let alloc = Global;
     /// let mut list = StableList::new(alloc)?;
     /// let one = list.push_back(1)?;
     /// let two = list.push_back(2)?;
     /// assert_eq!(list.next_element(one), Some((two, &2)));
     /// assert_eq!(list.next_element(two), None);
+    /// # Ok(())
+    /// # }
     /// ```
     ///
     /// # Proved
@@ -27,6 +33,8 @@ impl<K: Key, T> StableList<K, T> {
     /// ensures next { option_map (λ e. K.data_of e.0) result ≡ key_after (K.data_of cursor) self.now.elements }
     /// ensures value { IfSome result (λ e. value_of (K.data_of e.0) self.now.elements ≡ Some e.1.now) }
     /// ```
+    ///
+    /// Words: [`elements`](crate::words#elements), [`key_after`](crate::words#key_after-of-slotmap_list-sequence), [`value_of`](crate::words#value_of-of-slotmap_list-sequence).
     #[inline]
     pub fn next_element(&self, cursor: K) -> Option<(K, &T)> {
         let next = self.next(cursor)?;
@@ -38,12 +46,18 @@ impl<K: Key, T> StableList<K, T> {
     ///
     /// It is [`StableList::prev`] and [`StableList::get`] in one, with one look-up less. Constant time.
     ///
-    /// ```ignore
+    /// ```
+    /// # use slotmap_proved::{Global, Key, list};
+    /// # use slotmap_proved::list::StableList;
+    /// # fn main() -> Result<(), Box<dyn std::error::Error>> {
+    /// # let alloc = Global;
     /// let mut list = StableList::new(alloc)?;
     /// let one = list.push_back(1)?;
     /// let two = list.push_back(2)?;
     /// assert_eq!(list.prev_element(two), Some((one, &1)));
     /// assert_eq!(list.prev_element(one), None);
+    /// # Ok(())
+    /// # }
     /// ```
     ///
     /// # Proved
@@ -52,6 +66,8 @@ impl<K: Key, T> StableList<K, T> {
     /// ensures prev { option_map (λ e. K.data_of e.0) result ≡ key_before None (K.data_of cursor) self.now.elements }
     /// ensures value { IfSome result (λ e. value_of (K.data_of e.0) self.now.elements ≡ Some e.1.now) }
     /// ```
+    ///
+    /// Words: [`elements`](crate::words#elements), [`key_before`](crate::words#key_before), [`value_of`](crate::words#value_of-of-slotmap_list-sequence).
     #[inline]
     pub fn prev_element(&self, cursor: K) -> Option<(K, &T)> {
         let prev = self.prev(cursor)?;

@@ -15,12 +15,18 @@ impl<K: Key, T: Clone> StableList<K, T> {
     /// memory runs out, or the clone of a value fails, the call fails, and what was copied is dropped. It
     /// takes time linear in the capacity.
     ///
-    /// ```ignore
+    /// ```
+    /// # use slotmap_proved::{Global, Key, list};
+    /// # use slotmap_proved::list::StableList;
+    /// # fn main() -> Result<(), Box<dyn std::error::Error>> {
+    /// # let alloc = Global;
     /// let mut list = StableList::new(alloc)?;
     /// let one = list.push_back(1)?;
     /// let copy = list.clone()?;
     /// list.remove(one);
     /// assert_eq!(copy.get(one), Some(&1));
+    /// # Ok(())
+    /// # }
     /// ```
     ///
     /// # Proved
@@ -32,6 +38,8 @@ impl<K: Key, T: Clone> StableList<K, T> {
     /// ensures capacity { IfOk result (λ copy. bound copy.cursors ≡ bound self.now.cursors) }
     /// ensures room { IfOk result (λ copy. copy.cursors.room ≡ self.now.cursors.room) }
     /// ```
+    ///
+    /// Words: [`AreClones`](crate::words#areclones), [`bound`](crate::words#bound), [`ClonesEqual`](crate::words#clonesequal), [`cursors`](crate::words#cursors-of-slotmap_list-sequence), [`elements`](crate::words#elements), [`IsCopy`](crate::words#iscopy), [`room`](crate::words#room-of-slotmap_core-content).
     #[inline]
     pub fn clone(&self) -> Result<Self, AllocError> {
         Ok(StableList {

@@ -54,13 +54,19 @@ impl<K: Key, T> StableList<K, T> {
     /// Dropping the iterator early removes the remaining elements too. The list is empty then, has lost
     /// no room, and its capacity stays. The iterator is made in constant time.
     ///
-    /// ```ignore
+    /// ```
+    /// # use slotmap_proved::{Global, Key, list};
+    /// # use slotmap_proved::list::StableList;
+    /// # fn main() -> Result<(), Box<dyn std::error::Error>> {
+    /// # let alloc = Global;
     /// let mut list = StableList::new(alloc)?;
     /// let one = list.push_back(1)?;
     /// list.push_back(2)?;
     /// let first = list.drain().next(); // the drain is dropped here
     /// assert_eq!(first, Some((one, 1)));
     /// assert!(list.is_empty());
+    /// # Ok(())
+    /// # }
     /// ```
     ///
     /// # Proved
@@ -68,10 +74,13 @@ impl<K: Key, T> StableList<K, T> {
     /// ```text
     /// ensures list { (drain_loan result).now ≡ self.old }
     /// ensures same_reference { (drain_loan result).ghost_name ≡ self.entry.ghost_name }
+    ///
     /// // Laws of the steps, for callers that take more of them.
     /// ensures stays { KeepsLent K.data_of result }
     /// ensures in_order { YieldsInOrder K.data_of result }
     /// ```
+    ///
+    /// Words: [`drain_loan`](crate::words#drain_loan-of-slotmap_list-drain), [`KeepsLent`](crate::words#keepslent-of-slotmap_list-drain), [`YieldsInOrder`](crate::words#yieldsinorder-of-slotmap_list-drain).
     #[inline]
     pub fn drain(&mut self) -> Drain<'_, K, T> {
         Drain { list: self }

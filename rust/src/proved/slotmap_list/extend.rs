@@ -17,30 +17,44 @@ impl<K: Key, T> StableList<K, T> {
     /// the room or the vacant slots, and the capacity stays then. The iterator has to end. It takes
     /// constant time a value, unless a vector grows. In Rust this is the trait `Extend`.
     ///
-    /// ```ignore
+    /// ```
+    /// # use slotmap_proved::{Global, Key, list};
+    /// # use slotmap_proved::list::StableList;
+    /// # fn main() -> Result<(), Box<dyn std::error::Error>> {
+    /// # let alloc = Global;
     /// let mut list = StableList::new(alloc)?;
     /// list.push_back(1)?;
-    /// list.extend(vec![2, 3]?)?;
+    /// list.extend(vec![2, 3])?;
     /// assert_eq!(list.to_vec(alloc)?.as_slice(), [1, 2, 3].as_slice());
+    /// # Ok(())
+    /// # }
     /// ```
     ///
     /// # Proved
     ///
     /// ```text
-    /// requires { (it : I.IntoIter) → I.into_iter_gives iter it → I.IntoIter.can_next it × IsFinite (I.IntoIter.remaining it) }
-    /// ensures extends { (it : I.IntoIter) × I.into_iter_gives iter it × AddsAll it self.old.elements result self.new.elements I.IntoIter.next_gives }
+    /// requires { (it : I.IntoIter) → I.into_iter_gives iter it →
+    ///     I.IntoIter.can_next it × IsFinite (I.IntoIter.remaining it) }
+    /// ensures extends { (it : I.IntoIter) × I.into_iter_gives iter it
+    ///     × AddsAll it self.old.elements result self.new.elements I.IntoIter.next_gives }
     /// ensures used { used self.new.cursors + length self.old.elements ≡ used self.old.cursors + length self.new.elements }
     /// ensures err { IfErr result (FullAtLimit self.new.cursors) }
+    ///
     /// // It can't fail while the values fit into the room, and the capacity stays then.
     /// ensures room { OnErr result (self.old.cursors.room + length self.old.elements ≤ length self.new.elements) }
     /// ensures reuses { OnErr result (map.len self.old.cursors.next + length self.old.elements ≤ length self.new.elements) }
-    /// ensures in_place { OnOk result (length self.new.elements ≤ self.old.cursors.room + length self.old.elements → memory self.new ≡ memory self.old) }
+    /// ensures in_place { OnOk result (length self.new.elements ≤ self.old.cursors.room + length self.old.elements
+    ///     → memory self.new ≡ memory self.old) }
+    ///
     /// // Each value takes room for one key at most, and the capacity doesn't shrink.
     /// ensures room_left { self.old.cursors.room + length self.old.elements ≤ self.new.cursors.room + length self.new.elements }
     /// ensures capacity { self.old.cursors.capacity ≤ self.new.cursors.capacity }
+    ///
     /// // What never comes again.
     /// ensures gone { KeepsSpent self.old.cursors self.new.cursors }
     /// ```
+    ///
+    /// Words: [`AddsAll`](crate::words#addsall), [`capacity`](crate::words#capacity-of-slotmap_core-content), [`cursors`](crate::words#cursors-of-slotmap_list-sequence), [`elements`](crate::words#elements), [`FullAtLimit`](crate::words#fullatlimit), [`KeepsSpent`](crate::words#keepsspent), [`memory`](crate::words#memory-of-slotmap_list-sequence), [`next`](crate::words#next), [`room`](crate::words#room-of-slotmap_core-content), [`used`](crate::words#used).
     #[inline]
     pub fn extend<I: IntoIterator<Item = T>>(&mut self, iter: I) -> Result<(), PushError<T>> {
         for value in iter {
@@ -59,20 +73,31 @@ impl<K: Key, T> StableList<K, T> {
     /// value. The iterator has to end. It takes constant time a value, unless a vector grows. In Rust
     /// this is `FromIterator`.
     ///
-    /// ```ignore
-    /// let list: StableList<Cursor, u64> = StableList::from_iter(alloc, vec![1, 2]?).unwrap();
+    /// ```
+    /// # use slotmap_proved::{Global, Key, list};
+    /// # use slotmap_proved::list::{Cursor, StableList};
+    /// # fn main() -> Result<(), Box<dyn std::error::Error>> {
+    /// # let alloc = Global;
+    /// let list: StableList<Cursor, u64> = StableList::from_iter(alloc, vec![1, 2]).unwrap();
     /// assert_eq!(list.to_vec(alloc)?.as_slice(), [1, 2].as_slice());
+    /// # Ok(())
+    /// # }
     /// ```
     ///
     /// # Proved
     ///
     /// ```text
-    /// requires { (it : I.IntoIter) → I.into_iter_gives iter it → I.IntoIter.can_next it × IsFinite (I.IntoIter.remaining it) }
-    /// ensures ok { IfOk result (λ list. (it : I.IntoIter) × (values : List T) × I.into_iter_gives iter it × Drains I.IntoIter.next_gives it values × (list_map (λ e. e.1) list.elements ≡ values)) }
+    /// requires { (it : I.IntoIter) → I.into_iter_gives iter it →
+    ///     I.IntoIter.can_next it × IsFinite (I.IntoIter.remaining it) }
+    /// ensures ok { IfOk result (λ list. (it : I.IntoIter) × (values : List T) × I.into_iter_gives iter it
+    ///     × Drains I.IntoIter.next_gives it values × (list_map (λ e. e.1) list.elements ≡ values)) }
     /// ensures used { IfOk result (λ list. used list.cursors ≡ length list.elements) }
-    /// ensures err { IfErr result (λ error. IfSome error (λ back. (it : I.IntoIter) × (values : List T) × (rest : I.IntoIter) × I.into_iter_gives iter it × YieldsThen I.IntoIter.next_gives it values (Some (refused back)) rest × FullAfter (length values) back)) }
+    /// ensures err { IfErr result (λ error. IfSome error (λ back. (it : I.IntoIter) × (values : List T) × (rest : I.IntoIter)
+    ///     × I.into_iter_gives iter it × YieldsThen I.IntoIter.next_gives it values (Some (refused back)) rest × FullAfter (length values) back)) }
     /// ensures none { IfErr result (λ error. error ≡ None → (it : I.IntoIter) × I.into_iter_gives iter it × Drains I.IntoIter.next_gives it []) }
     /// ```
+    ///
+    /// Words: [`cursors`](crate::words#cursors-of-slotmap_list-sequence), [`elements`](crate::words#elements), [`FullAfter`](crate::words#fullafter), [`refused`](crate::words#refused), [`used`](crate::words#used).
     #[inline]
     pub fn from_iter<I: IntoIterator<Item = T>>(
         alloc: Global,
@@ -103,7 +128,11 @@ impl<K: Key, T> StableList<K, T> {
     /// linear in the number of elements of the other list. If this list has to grow, it also takes time
     /// linear in its capacity.
     ///
-    /// ```ignore
+    /// ```
+    /// # use slotmap_proved::{Global, Key, list};
+    /// # use slotmap_proved::list::StableList;
+    /// # fn main() -> Result<(), Box<dyn std::error::Error>> {
+    /// # let alloc = Global;
     /// let mut list = StableList::new(alloc)?;
     /// let mut other = StableList::new(alloc)?;
     /// list.push_back(1)?;
@@ -111,6 +140,8 @@ impl<K: Key, T> StableList<K, T> {
     /// list.append(&mut other)?;
     /// assert_eq!(list.to_vec(alloc)?.as_slice(), [1, 2].as_slice());
     /// assert!(other.is_empty());
+    /// # Ok(())
+    /// # }
     /// ```
     ///
     /// # Proved
@@ -120,6 +151,7 @@ impl<K: Key, T> StableList<K, T> {
     /// ensures empty { OnOk result (other.new.elements ≡ []) }
     /// ensures none_live { OnOk result (other.new.cursors.live ≡ map.empty) }
     /// ensures for_good { OnOk result ((k : KeyOf) → IsSome (value_of k other.old.elements) → IsSpent other.new.cursors k) }
+    ///
     /// // Why the call failed, and what that leaves.
     /// ensures had_room { length other.old.elements ≤ self.old.cursors.room → IsOk result }
     /// ensures reuses { length other.old.elements ≤ map.len self.old.cursors.next → IsOk result }
@@ -127,18 +159,23 @@ impl<K: Key, T> StableList<K, T> {
     /// ensures same_elements { OnErr result (self.new.elements ≡ self.old.elements) }
     /// ensures keeps { OnErr result (Keeps self.old.cursors self.new.cursors) }
     /// ensures same_other { OnErr result (other.new ≡ other.old) }
+    ///
     /// // Each value takes room for one key at most, and the capacity doesn't shrink.
     /// ensures used { OnOk result (used self.new.cursors ≡ used self.old.cursors + length other.old.elements) }
     /// ensures room_left { OnOk result (self.old.cursors.room ≤ self.new.cursors.room + length other.old.elements) }
     /// ensures capacity { self.old.cursors.capacity ≤ self.new.cursors.capacity }
+    ///
     /// // What stays: the capacity, if there is room, and that of the other list, which loses no room.
     /// ensures in_place { length other.old.elements ≤ self.old.cursors.room → memory self.new ≡ memory self.old }
     /// ensures leaves_other { Leaves other.old.cursors other.new.cursors }
     /// ensures capacity_other { memory other.new ≡ memory other.old }
+    ///
     /// // What never comes again.
     /// ensures gone { KeepsSpent self.old.cursors self.new.cursors }
     /// ensures gone_other { KeepsSpent other.old.cursors other.new.cursors }
     /// ```
+    ///
+    /// Words: [`Adds`](crate::words#adds), [`capacity`](crate::words#capacity-of-slotmap_core-content), [`cursors`](crate::words#cursors-of-slotmap_list-sequence), [`elements`](crate::words#elements), [`IsSpent`](crate::words#isspent), [`Keeps`](crate::words#keeps), [`KeepsSpent`](crate::words#keepsspent), [`Key`](crate::words#key), [`Leaves`](crate::words#leaves), [`live`](crate::words#live), [`memory`](crate::words#memory-of-slotmap_list-sequence), [`next`](crate::words#next), [`RefusesCapacity`](crate::words#refusescapacity), [`room`](crate::words#room-of-slotmap_core-content), [`used`](crate::words#used), [`value_of`](crate::words#value_of-of-slotmap_list-sequence).
     #[inline]
     pub fn append<L: Key>(&mut self, other: &mut StableList<L, T>) -> Result<(), ReserveError> {
         self.reserve(other.len())?;

@@ -14,7 +14,11 @@ use crate::rt::std::iter::FusedIterator;
 /// its end it yields nothing. Each step takes constant time and can't fail. Dropping it drops the
 /// values that are left.
 ///
-/// ```ignore
+/// ```
+/// # use slotmap_proved::{Global, Key, list};
+/// # use slotmap_proved::list::StableList;
+/// # fn main() -> Result<(), Box<dyn std::error::Error>> {
+/// # let alloc = Global;
 /// let mut list = StableList::new(alloc)?;
 /// let one = list.push_back(1)?;
 /// let two = list.push_back(2)?;
@@ -22,6 +26,8 @@ use crate::rt::std::iter::FusedIterator;
 /// assert_eq!(elements.next_back(), Some((two, 2)));
 /// assert_eq!(elements.next(), Some((one, 1)));
 /// assert_eq!(elements.next(), None);
+/// # Ok(())
+/// # }
 /// ```
 pub struct IntoIter<K, T> {
     pub(in crate::proved::slotmap_list) list: StableList<K, T>,

@@ -25,7 +25,11 @@
 //! The values lie in a map. Their order lies apart from them, in 8 bytes a slot: links of 4 bytes
 //! by the index of the slot.
 //!
-//! ```ignore
+//! ```
+//! # use slotmap_proved::{Global, Key, list};
+//! # use slotmap_proved::list::StableList;
+//! # fn main() -> Result<(), Box<dyn std::error::Error>> {
+//! # let alloc = Global;
 //! let mut list = StableList::new(alloc)?;
 //! let one = list.push_back(1)?;
 //! let three = list.push_back(3)?;
@@ -36,6 +40,8 @@
 //! list.remove(one);
 //! assert_eq!(list.to_vec(alloc)?.as_slice(), [3, 2].as_slice());
 //! assert_eq!(list.get(one), None);
+//! # Ok(())
+//! # }
 //! ```
 
 #[allow(unused_imports)]
@@ -123,9 +129,15 @@ impl<T> StableList<Cursor, T> {
     ///
     /// It fails only if memory runs out.
     ///
-    /// ```ignore
+    /// ```
+    /// # use slotmap_proved::{Global, Key, list};
+    /// # use slotmap_proved::list::{Cursor, StableList};
+    /// # fn main() -> Result<(), Box<dyn std::error::Error>> {
+    /// # let alloc = Global;
     /// let list: StableList<Cursor, u64> = StableList::new(alloc)?;
     /// assert!(list.is_empty());
+    /// # Ok(())
+    /// # }
     /// ```
     ///
     /// # Proved
@@ -135,6 +147,8 @@ impl<T> StableList<Cursor, T> {
     /// ensures cursors { IfOk result (λ list. IsNew list.cursors) }
     /// ensures err { IfErr result (λ error. error ≡ ReserveError.Memory) }
     /// ```
+    ///
+    /// Words: [`cursors`](crate::words#cursors-of-slotmap_list-sequence), [`elements`](crate::words#elements), [`IsNew`](crate::words#isnew).
     #[inline]
     pub fn new(alloc: Global) -> Result<Self, ReserveError> {
         StableList::with_key(alloc)
@@ -146,10 +160,16 @@ impl<T> StableList<Cursor, T> {
     /// `TooGreat` if `capacity` is over 4294967294, and with `Memory` if memory runs out. It takes
     /// time linear in `capacity`.
     ///
-    /// ```ignore
+    /// ```
+    /// # use slotmap_proved::{Global, Key, list};
+    /// # use slotmap_proved::list::{Cursor, StableList};
+    /// # fn main() -> Result<(), Box<dyn std::error::Error>> {
+    /// # let alloc = Global;
     /// let mut list: StableList<Cursor, u64> = StableList::with_capacity(alloc, 2)?;
     /// assert!(list.is_empty());
     /// assert!(list.capacity() >= 2);
+    /// # Ok(())
+    /// # }
     /// ```
     ///
     /// # Proved
@@ -160,6 +180,8 @@ impl<T> StableList<Cursor, T> {
     /// ensures room { IfOk result (λ list. capacity ≤ list.cursors.room) }
     /// ensures err { IfErr result (RefusesCapacity capacity) }
     /// ```
+    ///
+    /// Words: [`cursors`](crate::words#cursors-of-slotmap_list-sequence), [`elements`](crate::words#elements), [`IsNew`](crate::words#isnew), [`RefusesCapacity`](crate::words#refusescapacity), [`room`](crate::words#room-of-slotmap_core-content).
     #[inline]
     pub fn with_capacity(alloc: Global, capacity: usize) -> Result<Self, ReserveError> {
         StableList::with_capacity_and_key(alloc, capacity)
@@ -171,9 +193,15 @@ impl<K: Key, T> StableList<K, T> {
     ///
     /// It fails only if memory runs out.
     ///
-    /// ```ignore
+    /// ```
+    /// # use slotmap_proved::{Global, Key, list, NodeKey};
+    /// # use slotmap_proved::list::StableList;
+    /// # fn main() -> Result<(), Box<dyn std::error::Error>> {
+    /// # let alloc = Global;
     /// let list: StableList<NodeKey, u64> = StableList::with_key(alloc)?;
     /// assert!(list.is_empty());
+    /// # Ok(())
+    /// # }
     /// ```
     ///
     /// # Proved
@@ -183,6 +211,8 @@ impl<K: Key, T> StableList<K, T> {
     /// ensures cursors { IfOk result (λ list. IsNew list.cursors) }
     /// ensures err { IfErr result (λ error. error ≡ ReserveError.Memory) }
     /// ```
+    ///
+    /// Words: [`cursors`](crate::words#cursors-of-slotmap_list-sequence), [`elements`](crate::words#elements), [`IsNew`](crate::words#isnew).
     #[inline]
     pub fn with_key(alloc: Global) -> Result<Self, ReserveError> {
         StableList::with_capacity_and_key(alloc, 0)
@@ -194,9 +224,15 @@ impl<K: Key, T> StableList<K, T> {
     /// `TooGreat` if `capacity` is over 4294967294, and with `Memory` if memory runs out. It takes
     /// time linear in `capacity`.
     ///
-    /// ```ignore
+    /// ```
+    /// # use slotmap_proved::{Global, Key, list, NodeKey};
+    /// # use slotmap_proved::list::StableList;
+    /// # fn main() -> Result<(), Box<dyn std::error::Error>> {
+    /// # let alloc = Global;
     /// let list: StableList<NodeKey, u64> = StableList::with_capacity_and_key(alloc, 2)?;
     /// assert!(list.capacity() >= 2);
+    /// # Ok(())
+    /// # }
     /// ```
     ///
     /// # Proved
@@ -207,6 +243,8 @@ impl<K: Key, T> StableList<K, T> {
     /// ensures room { IfOk result (λ list. capacity ≤ list.cursors.room) }
     /// ensures err { IfErr result (RefusesCapacity capacity) }
     /// ```
+    ///
+    /// Words: [`cursors`](crate::words#cursors-of-slotmap_list-sequence), [`elements`](crate::words#elements), [`IsNew`](crate::words#isnew), [`RefusesCapacity`](crate::words#refusescapacity), [`room`](crate::words#room-of-slotmap_core-content).
     #[inline]
     pub fn with_capacity_and_key(alloc: Global, capacity: usize) -> Result<Self, ReserveError> {
         let values = BoundedMap::with_capacity(alloc, capacity)?;
@@ -218,12 +256,18 @@ impl<K: Key, T> StableList<K, T> {
 
     /// Returns whether a cursor is in the list, in constant time.
     ///
-    /// ```ignore
+    /// ```
+    /// # use slotmap_proved::{Global, Key, list};
+    /// # use slotmap_proved::list::StableList;
+    /// # fn main() -> Result<(), Box<dyn std::error::Error>> {
+    /// # let alloc = Global;
     /// let mut list = StableList::new(alloc)?;
     /// let one = list.push_back(1)?;
     /// assert!(list.contains(one));
     /// list.remove(one);
     /// assert!(!list.contains(one));
+    /// # Ok(())
+    /// # }
     /// ```
     ///
     /// # Proved
@@ -232,6 +276,8 @@ impl<K: Key, T> StableList<K, T> {
     /// ensures value { result ≡ is_some (value_of (K.data_of cursor) self.now.elements) }
     /// ensures live { result ≡ map.contains_key self.now.cursors.live (K.data_of cursor) }
     /// ```
+    ///
+    /// Words: [`cursors`](crate::words#cursors-of-slotmap_list-sequence), [`elements`](crate::words#elements), [`live`](crate::words#live), [`value_of`](crate::words#value_of-of-slotmap_list-sequence).
     #[inline]
     pub fn contains(&self, cursor: K) -> bool {
         self.values.contains_key(cursor)
@@ -239,12 +285,18 @@ impl<K: Key, T> StableList<K, T> {
 
     /// Returns the number of elements, in constant time. No cursor occurs twice.
     ///
-    /// ```ignore
+    /// ```
+    /// # use slotmap_proved::{Global, Key, list};
+    /// # use slotmap_proved::list::StableList;
+    /// # fn main() -> Result<(), Box<dyn std::error::Error>> {
+    /// # let alloc = Global;
     /// let mut list = StableList::new(alloc)?;
     /// let one = list.push_back(1)?;
     /// assert_eq!(list.len(), 1);
     /// list.remove(one);
     /// assert_eq!(list.len(), 0);
+    /// # Ok(())
+    /// # }
     /// ```
     ///
     /// # Proved
@@ -255,6 +307,8 @@ impl<K: Key, T> StableList<K, T> {
     /// ensures live { result ≡ map.len self.now.cursors.live }
     /// ensures same_keys { (k : KeyOf) → map.contains_key self.now.cursors.live k ≡ is_some (value_of k self.now.elements) }
     /// ```
+    ///
+    /// Words: [`cursors`](crate::words#cursors-of-slotmap_list-sequence), [`elements`](crate::words#elements), [`IsOnce`](crate::words#isonce-of-slotmap_list-sequence), [`Key`](crate::words#key), [`live`](crate::words#live), [`value_of`](crate::words#value_of-of-slotmap_list-sequence).
     #[inline]
     pub fn len(&self) -> usize {
         self.links.len(0)
@@ -262,11 +316,17 @@ impl<K: Key, T> StableList<K, T> {
 
     /// Returns whether the list has no element, in constant time.
     ///
-    /// ```ignore
+    /// ```
+    /// # use slotmap_proved::{Global, Key, list};
+    /// # use slotmap_proved::list::StableList;
+    /// # fn main() -> Result<(), Box<dyn std::error::Error>> {
+    /// # let alloc = Global;
     /// let mut list = StableList::new(alloc)?;
     /// assert!(list.is_empty());
     /// list.push_back(1)?;
     /// assert!(!list.is_empty());
+    /// # Ok(())
+    /// # }
     /// ```
     ///
     /// # Proved
@@ -274,6 +334,8 @@ impl<K: Key, T> StableList<K, T> {
     /// ```text
     /// ensures { IsTrue result ↔ (length self.now.elements ≡ 0) }
     /// ```
+    ///
+    /// Words: [`elements`](crate::words#elements).
     #[inline]
     pub fn is_empty(&self) -> bool {
         self.len() == 0
@@ -281,13 +343,19 @@ impl<K: Key, T> StableList<K, T> {
 
     /// Returns the cursor of the element at the front, or `None` if the list is empty.
     ///
-    /// ```ignore
+    /// ```
+    /// # use slotmap_proved::{Global, Key, list};
+    /// # use slotmap_proved::list::StableList;
+    /// # fn main() -> Result<(), Box<dyn std::error::Error>> {
+    /// # let alloc = Global;
     /// let mut list = StableList::new(alloc)?;
     /// let one = list.push_back(1)?;
     /// list.push_back(2)?;
     /// assert_eq!(list.first(), Some(one));
     /// list.clear();
     /// assert_eq!(list.first(), None);
+    /// # Ok(())
+    /// # }
     /// ```
     ///
     /// # Proved
@@ -295,6 +363,8 @@ impl<K: Key, T> StableList<K, T> {
     /// ```text
     /// ensures { option_map K.data_of result ≡ first_or self.now.elements None }
     /// ```
+    ///
+    /// Words: [`elements`](crate::words#elements), [`first_or`](crate::words#first_or-of-slotmap_list-sequence).
     #[inline]
     pub fn first(&self) -> Option<K> {
         key_at(&self.values, self.links.first(0))
@@ -302,13 +372,19 @@ impl<K: Key, T> StableList<K, T> {
 
     /// Returns the cursor of the element at the back, or `None` if the list is empty.
     ///
-    /// ```ignore
+    /// ```
+    /// # use slotmap_proved::{Global, Key, list};
+    /// # use slotmap_proved::list::StableList;
+    /// # fn main() -> Result<(), Box<dyn std::error::Error>> {
+    /// # let alloc = Global;
     /// let mut list = StableList::new(alloc)?;
     /// let one = list.push_back(1)?;
     /// let two = list.push_back(2)?;
     /// assert_eq!(list.last(), Some(two));
     /// list.remove(two);
     /// assert_eq!(list.last(), Some(one));
+    /// # Ok(())
+    /// # }
     /// ```
     ///
     /// # Proved
@@ -316,6 +392,8 @@ impl<K: Key, T> StableList<K, T> {
     /// ```text
     /// ensures { option_map K.data_of result ≡ last_or self.now.elements None }
     /// ```
+    ///
+    /// Words: [`elements`](crate::words#elements), [`last_or`](crate::words#last_or-of-slotmap_list-sequence).
     #[inline]
     pub fn last(&self) -> Option<K> {
         key_at(&self.values, self.links.last(0))
@@ -323,12 +401,18 @@ impl<K: Key, T> StableList<K, T> {
 
     /// Returns the value of a cursor, or `None` if it isn't in the list.
     ///
-    /// ```ignore
+    /// ```
+    /// # use slotmap_proved::{Global, Key, list};
+    /// # use slotmap_proved::list::StableList;
+    /// # fn main() -> Result<(), Box<dyn std::error::Error>> {
+    /// # let alloc = Global;
     /// let mut list = StableList::new(alloc)?;
     /// let one = list.push_back(1)?;
     /// assert_eq!(list.get(one), Some(&1));
     /// list.remove(one);
     /// assert_eq!(list.get(one), None);
+    /// # Ok(())
+    /// # }
     /// ```
     ///
     /// # Proved
@@ -337,6 +421,8 @@ impl<K: Key, T> StableList<K, T> {
     /// ensures value { option_copied result ≡ value_of (K.data_of cursor) self.now.elements }
     /// ensures gone { IsSpent self.now.cursors (K.data_of cursor) → result ≡ None }
     /// ```
+    ///
+    /// Words: [`cursors`](crate::words#cursors-of-slotmap_list-sequence), [`elements`](crate::words#elements), [`IsSpent`](crate::words#isspent), [`value_of`](crate::words#value_of-of-slotmap_list-sequence).
     #[inline]
     pub fn get(&self, cursor: K) -> Option<&T> {
         self.values.get(cursor)
@@ -345,12 +431,18 @@ impl<K: Key, T> StableList<K, T> {
     /// Returns the cursor after this one, or `None` at the back and for a cursor that isn't in the
     /// list.
     ///
-    /// ```ignore
+    /// ```
+    /// # use slotmap_proved::{Global, Key, list};
+    /// # use slotmap_proved::list::StableList;
+    /// # fn main() -> Result<(), Box<dyn std::error::Error>> {
+    /// # let alloc = Global;
     /// let mut list = StableList::new(alloc)?;
     /// let one = list.push_back(1)?;
     /// let two = list.push_back(2)?;
     /// assert_eq!(list.next(one), Some(two));
     /// assert_eq!(list.next(two), None);
+    /// # Ok(())
+    /// # }
     /// ```
     ///
     /// # Proved
@@ -358,6 +450,8 @@ impl<K: Key, T> StableList<K, T> {
     /// ```text
     /// ensures { option_map K.data_of result ≡ key_after (K.data_of cursor) self.now.elements }
     /// ```
+    ///
+    /// Words: [`elements`](crate::words#elements), [`key_after`](crate::words#key_after-of-slotmap_list-sequence).
     #[inline]
     pub fn next(&self, cursor: K) -> Option<K> {
         self.after(cursor)
@@ -366,12 +460,18 @@ impl<K: Key, T> StableList<K, T> {
     /// Returns the cursor before this one, or `None` at the front and for a cursor that isn't in the
     /// list.
     ///
-    /// ```ignore
+    /// ```
+    /// # use slotmap_proved::{Global, Key, list};
+    /// # use slotmap_proved::list::StableList;
+    /// # fn main() -> Result<(), Box<dyn std::error::Error>> {
+    /// # let alloc = Global;
     /// let mut list = StableList::new(alloc)?;
     /// let one = list.push_back(1)?;
     /// let two = list.push_back(2)?;
     /// assert_eq!(list.prev(two), Some(one));
     /// assert_eq!(list.prev(one), None);
+    /// # Ok(())
+    /// # }
     /// ```
     ///
     /// # Proved
@@ -379,6 +479,8 @@ impl<K: Key, T> StableList<K, T> {
     /// ```text
     /// ensures { option_map K.data_of result ≡ key_before None (K.data_of cursor) self.now.elements }
     /// ```
+    ///
+    /// Words: [`elements`](crate::words#elements), [`key_before`](crate::words#key_before).
     #[inline]
     pub fn prev(&self, cursor: K) -> Option<K> {
         if !self.values.contains_key(cursor) {
@@ -401,7 +503,11 @@ impl<K: Key, T> StableList<K, T> {
     ///
     /// It is made in constant time, and each step takes constant time.
     ///
-    /// ```ignore
+    /// ```
+    /// # use slotmap_proved::{Global, Key, list};
+    /// # use slotmap_proved::list::StableList;
+    /// # fn main() -> Result<(), Box<dyn std::error::Error>> {
+    /// # let alloc = Global;
     /// let mut list = StableList::new(alloc)?;
     /// let one = list.push_back(1)?;
     /// let two = list.push_back(2)?;
@@ -409,6 +515,8 @@ impl<K: Key, T> StableList<K, T> {
     /// assert_eq!(elements.next_back(), Some((two, &2)));
     /// assert_eq!(elements.next(), Some((one, &1)));
     /// assert_eq!(elements.next(), None);
+    /// # Ok(())
+    /// # }
     /// ```
     ///
     /// # Proved
@@ -417,6 +525,8 @@ impl<K: Key, T> StableList<K, T> {
     /// ensures elements { result ≡ self.now.elements }
     /// ensures once { IsOnce result }
     /// ```
+    ///
+    /// Words: [`elements`](crate::words#elements), [`IsOnce`](crate::words#isonce-of-slotmap_list-sequence).
     #[inline]
     pub fn iter(&self) -> Iter<'_, K, T> {
         Iter {
@@ -428,11 +538,17 @@ impl<K: Key, T> StableList<K, T> {
     /// Returns the values from front to back, in time linear in their number. It fails only if memory
     /// runs out.
     ///
-    /// ```ignore
+    /// ```
+    /// # use slotmap_proved::{Global, Key, list};
+    /// # use slotmap_proved::list::StableList;
+    /// # fn main() -> Result<(), Box<dyn std::error::Error>> {
+    /// # let alloc = Global;
     /// let mut list = StableList::new(alloc)?;
     /// list.push_back(1)?;
     /// list.push_front(2)?;
     /// assert_eq!(list.to_vec(alloc)?.as_slice(), [2, 1].as_slice());
+    /// # Ok(())
+    /// # }
     /// ```
     ///
     /// # Proved
@@ -440,6 +556,8 @@ impl<K: Key, T> StableList<K, T> {
     /// ```text
     /// ensures { IfOk result (λ values. values.items ≡ list_map (λ e. e.1) self.now.elements) }
     /// ```
+    ///
+    /// Words: [`elements`](crate::words#elements).
     #[inline]
     pub fn to_vec(&self, alloc: Global) -> Result<Vec<T>, AllocError>
     where

@@ -22,13 +22,19 @@ impl<K: Key, T> StableList<K, T> {
     ///
     /// Constant time.
     ///
-    /// ```ignore
+    /// ```
+    /// # use slotmap_proved::{Global, Key, list};
+    /// # use slotmap_proved::list::StableList;
+    /// # fn main() -> Result<(), Box<dyn std::error::Error>> {
+    /// # let alloc = Global;
     /// let mut list = StableList::new(alloc)?;
     /// let one = list.push_back(1)?;
     /// if let Some(value) = list.get_mut(one) {
     ///     *value = 5;
     /// }
     /// assert_eq!(list.get(one), Some(&5));
+    /// # Ok(())
+    /// # }
     /// ```
     ///
     /// # Proved
@@ -37,6 +43,8 @@ impl<K: Key, T> StableList<K, T> {
     /// ensures* writes_back { sem 𝓛 (lends_element K.row T.row self.entry (K.data_of cursor) result) }
     /// ensures value { option_copied_mut result ≡ value_of (K.data_of cursor) self.old.elements }
     /// ```
+    ///
+    /// Words: [`elements`](crate::words#elements), [`lends_element`](crate::words#lends_element), [`value_of`](crate::words#value_of-of-slotmap_list-sequence).
     #[inline]
     pub fn get_mut(&mut self, cursor: K) -> Option<&mut T> {
         match self.values.get_mut(cursor) {
@@ -49,7 +57,11 @@ impl<K: Key, T> StableList<K, T> {
     ///
     /// Constant time.
     ///
-    /// ```ignore
+    /// ```
+    /// # use slotmap_proved::{Global, Key, list};
+    /// # use slotmap_proved::list::StableList;
+    /// # fn main() -> Result<(), Box<dyn std::error::Error>> {
+    /// # let alloc = Global;
     /// let mut list = StableList::new(alloc)?;
     /// list.push_back(1)?;
     /// list.push_back(2)?;
@@ -57,6 +69,8 @@ impl<K: Key, T> StableList<K, T> {
     ///     *value = 5;
     /// }
     /// assert_eq!(list.to_vec(alloc)?.as_slice(), [5, 2].as_slice());
+    /// # Ok(())
+    /// # }
     /// ```
     ///
     /// # Proved
@@ -65,6 +79,8 @@ impl<K: Key, T> StableList<K, T> {
     /// ensures* writes_back { sem 𝓛 (lends_first K.row T.row self.entry result) }
     /// ensures value { option_copied_mut result ≡ slice_get (list_map (λ e. e.1) self.old.elements) 0 }
     /// ```
+    ///
+    /// Words: [`elements`](crate::words#elements), [`lends_first`](crate::words#lends_first).
     #[inline]
     pub fn front_mut(&mut self) -> Option<&mut T> {
         match self.first() {
@@ -77,7 +93,11 @@ impl<K: Key, T> StableList<K, T> {
     ///
     /// Constant time.
     ///
-    /// ```ignore
+    /// ```
+    /// # use slotmap_proved::{Global, Key, list};
+    /// # use slotmap_proved::list::StableList;
+    /// # fn main() -> Result<(), Box<dyn std::error::Error>> {
+    /// # let alloc = Global;
     /// let mut list = StableList::new(alloc)?;
     /// list.push_back(1)?;
     /// list.push_back(2)?;
@@ -85,6 +105,8 @@ impl<K: Key, T> StableList<K, T> {
     ///     *value = 5;
     /// }
     /// assert_eq!(list.to_vec(alloc)?.as_slice(), [1, 5].as_slice());
+    /// # Ok(())
+    /// # }
     /// ```
     ///
     /// # Proved
@@ -93,6 +115,8 @@ impl<K: Key, T> StableList<K, T> {
     /// ensures* writes_back { sem 𝓛 (lends_last K.row T.row self.entry result) }
     /// ensures value { option_copied_mut result ≡ slice_get (list_map (λ e. e.1) self.old.elements) (length self.old.elements - 1) }
     /// ```
+    ///
+    /// Words: [`elements`](crate::words#elements), [`lends_last`](crate::words#lends_last).
     #[inline]
     pub fn back_mut(&mut self) -> Option<&mut T> {
         // By what `len` ensures, no cursor stands twice.
@@ -108,12 +132,18 @@ impl<K: Key, T> StableList<K, T> {
     ///
     /// Constant time. The element keeps its cursor, and the capacity stays.
     ///
-    /// ```ignore
+    /// ```
+    /// # use slotmap_proved::{Global, Key, list};
+    /// # use slotmap_proved::list::StableList;
+    /// # fn main() -> Result<(), Box<dyn std::error::Error>> {
+    /// # let alloc = Global;
     /// let mut list = StableList::new(alloc)?;
     /// list.push_back(1)?;
     /// let two = list.push_back(2)?;
     /// assert!(list.move_to_front(two));
     /// assert_eq!(list.to_vec(alloc)?.as_slice(), [2, 1].as_slice());
+    /// # Ok(())
+    /// # }
     /// ```
     ///
     /// # Proved
@@ -124,6 +154,8 @@ impl<K: Key, T> StableList<K, T> {
     /// ensures first { IsTrue result → first_or self.new.elements None ≡ Some (K.data_of cursor) }
     /// ensures values { (q : KeyOf) → value_of q self.new.elements ≡ value_of q self.old.elements }
     /// ```
+    ///
+    /// Words: [`elements`](crate::words#elements), [`first_or`](crate::words#first_or-of-slotmap_list-sequence), [`Key`](crate::words#key), [`moved_to_front`](crate::words#moved_to_front), [`value_of`](crate::words#value_of-of-slotmap_list-sequence).
     #[inline]
     pub fn move_to_front(&mut self, cursor: K) -> bool {
         self.move_to(cursor, Place::Front)
@@ -134,12 +166,18 @@ impl<K: Key, T> StableList<K, T> {
     ///
     /// Constant time. The element keeps its cursor, and the capacity stays.
     ///
-    /// ```ignore
+    /// ```
+    /// # use slotmap_proved::{Global, Key, list};
+    /// # use slotmap_proved::list::StableList;
+    /// # fn main() -> Result<(), Box<dyn std::error::Error>> {
+    /// # let alloc = Global;
     /// let mut list = StableList::new(alloc)?;
     /// let one = list.push_back(1)?;
     /// list.push_back(2)?;
     /// assert!(list.move_to_back(one));
     /// assert_eq!(list.to_vec(alloc)?.as_slice(), [2, 1].as_slice());
+    /// # Ok(())
+    /// # }
     /// ```
     ///
     /// # Proved
@@ -150,6 +188,8 @@ impl<K: Key, T> StableList<K, T> {
     /// ensures last { IsTrue result → last_or self.new.elements None ≡ Some (K.data_of cursor) }
     /// ensures values { (q : KeyOf) → value_of q self.new.elements ≡ value_of q self.old.elements }
     /// ```
+    ///
+    /// Words: [`elements`](crate::words#elements), [`Key`](crate::words#key), [`last_or`](crate::words#last_or-of-slotmap_list-sequence), [`moved_to_back`](crate::words#moved_to_back), [`value_of`](crate::words#value_of-of-slotmap_list-sequence).
     #[inline]
     pub fn move_to_back(&mut self, cursor: K) -> bool {
         self.move_to(cursor, Place::Back)
@@ -160,23 +200,32 @@ impl<K: Key, T> StableList<K, T> {
     ///
     /// Constant time. The element keeps its cursor, and the capacity stays.
     ///
-    /// ```ignore
+    /// ```
+    /// # use slotmap_proved::{Global, Key, list};
+    /// # use slotmap_proved::list::StableList;
+    /// # fn main() -> Result<(), Box<dyn std::error::Error>> {
+    /// # let alloc = Global;
     /// let mut list = StableList::new(alloc)?;
     /// let one = list.push_back(1)?;
     /// let two = list.push_back(2)?;
     /// assert!(list.move_after(one, two));
     /// assert_eq!(list.to_vec(alloc)?.as_slice(), [2, 1].as_slice());
     /// assert!(!list.move_after(one, one));
+    /// # Ok(())
+    /// # }
     /// ```
     ///
     /// # Proved
     ///
     /// ```text
     /// ensures which { result ≡ are_two (K.data_of cursor) (K.data_of other) self.old.elements }
-    /// ensures moved { self.new ≡ record self.old { elements = if result then moved_after (K.data_of cursor) (K.data_of other) self.old.elements else self.old.elements } }
+    /// ensures moved { self.new ≡ record self.old
+    ///     { elements = if result then moved_after (K.data_of cursor) (K.data_of other) self.old.elements else self.old.elements } }
     /// ensures next { IsTrue result → key_after (K.data_of other) self.new.elements ≡ Some (K.data_of cursor) }
     /// ensures values { (q : KeyOf) → value_of q self.new.elements ≡ value_of q self.old.elements }
     /// ```
+    ///
+    /// Words: [`are_two`](crate::words#are_two), [`elements`](crate::words#elements), [`Key`](crate::words#key), [`key_after`](crate::words#key_after-of-slotmap_list-sequence), [`moved_after`](crate::words#moved_after), [`value_of`](crate::words#value_of-of-slotmap_list-sequence).
     #[inline]
     pub fn move_after(&mut self, cursor: K, other: K) -> bool {
         self.move_to(cursor, Place::Beside(Side::After, other.data()))
@@ -187,23 +236,32 @@ impl<K: Key, T> StableList<K, T> {
     ///
     /// Constant time. The element keeps its cursor, and the capacity stays.
     ///
-    /// ```ignore
+    /// ```
+    /// # use slotmap_proved::{Global, Key, list};
+    /// # use slotmap_proved::list::StableList;
+    /// # fn main() -> Result<(), Box<dyn std::error::Error>> {
+    /// # let alloc = Global;
     /// let mut list = StableList::new(alloc)?;
     /// let one = list.push_back(1)?;
     /// let two = list.push_back(2)?;
     /// assert!(list.move_before(two, one));
     /// assert_eq!(list.to_vec(alloc)?.as_slice(), [2, 1].as_slice());
     /// assert!(!list.move_before(two, two));
+    /// # Ok(())
+    /// # }
     /// ```
     ///
     /// # Proved
     ///
     /// ```text
     /// ensures which { result ≡ are_two (K.data_of cursor) (K.data_of other) self.old.elements }
-    /// ensures moved { self.new ≡ record self.old { elements = if result then moved_before (K.data_of cursor) (K.data_of other) self.old.elements else self.old.elements } }
+    /// ensures moved { self.new ≡ record self.old
+    ///     { elements = if result then moved_before (K.data_of cursor) (K.data_of other) self.old.elements else self.old.elements } }
     /// ensures prev { IsTrue result → key_before None (K.data_of other) self.new.elements ≡ Some (K.data_of cursor) }
     /// ensures values { (q : KeyOf) → value_of q self.new.elements ≡ value_of q self.old.elements }
     /// ```
+    ///
+    /// Words: [`are_two`](crate::words#are_two), [`elements`](crate::words#elements), [`Key`](crate::words#key), [`key_before`](crate::words#key_before), [`moved_before`](crate::words#moved_before), [`value_of`](crate::words#value_of-of-slotmap_list-sequence).
     #[inline]
     pub fn move_before(&mut self, cursor: K, other: K) -> bool {
         self.move_to(cursor, Place::Beside(Side::Before, other.data()))
@@ -216,7 +274,11 @@ impl<K: Key, T> StableList<K, T> {
     /// where the other one stood. In a slice, where an index names a place, `swap` leaves the index and
     /// moves the value. Constant time. The capacity stays.
     ///
-    /// ```ignore
+    /// ```
+    /// # use slotmap_proved::{Global, Key, list};
+    /// # use slotmap_proved::list::StableList;
+    /// # fn main() -> Result<(), Box<dyn std::error::Error>> {
+    /// # let alloc = Global;
     /// let mut list = StableList::new(alloc)?;
     /// let one = list.push_back(1)?;
     /// list.push_back(2)?;
@@ -225,6 +287,8 @@ impl<K: Key, T> StableList<K, T> {
     /// assert_eq!(list.to_vec(alloc)?.as_slice(), [3, 2, 1].as_slice());
     /// assert_eq!(list.get(one), Some(&1));
     /// assert!(!list.swap(one, one));
+    /// # Ok(())
+    /// # }
     /// ```
     ///
     /// # Proved
@@ -237,6 +301,8 @@ impl<K: Key, T> StableList<K, T> {
     /// ensures links { self.new.links ≡ self.old.links }
     /// ensures unchanged { result ≡ false → self.new ≡ self.old }
     /// ```
+    ///
+    /// Words: [`are_two`](crate::words#are_two), [`cursors`](crate::words#cursors-of-slotmap_list-sequence), [`elements`](crate::words#elements), [`Key`](crate::words#key), [`links`](crate::words#links-of-slotmap_list-sequence), [`Swaps`](crate::words#swaps), [`value_of`](crate::words#value_of-of-slotmap_list-sequence).
     #[inline]
     pub fn swap(&mut self, cursor: K, other: K) -> bool {
         if !self.has_two(cursor, other) {

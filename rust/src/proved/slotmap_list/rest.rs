@@ -48,7 +48,11 @@ impl<K: Key, T> StableList<K, T> {
     ///
     /// It is made in constant time, and each step takes constant time.
     ///
-    /// ```ignore
+    /// ```
+    /// # use slotmap_proved::{Global, Key, list};
+    /// # use slotmap_proved::list::StableList;
+    /// # fn main() -> Result<(), Box<dyn std::error::Error>> {
+    /// # let alloc = Global;
     /// let mut list = StableList::new(alloc)?;
     /// list.push_back(1)?;
     /// let two = list.push_back(2)?;
@@ -57,6 +61,8 @@ impl<K: Key, T> StableList<K, T> {
     /// assert_eq!(elements.next(), Some((two, &2)));
     /// assert_eq!(elements.next(), Some((three, &3)));
     /// assert_eq!(elements.next(), None);
+    /// # Ok(())
+    /// # }
     /// ```
     ///
     /// # Proved
@@ -65,6 +71,8 @@ impl<K: Key, T> StableList<K, T> {
     /// ensures elements { result ≡ from_key (K.data_of cursor) self.now.elements }
     /// ensures once { IsOnce self.now.elements }
     /// ```
+    ///
+    /// Words: [`elements`](crate::words#elements), [`from_key`](crate::words#from_key), [`IsOnce`](crate::words#isonce-of-slotmap_list-sequence).
     #[inline]
     pub fn iter_from(&self, cursor: K) -> IterFrom<'_, K, T> {
         let most = self.len();

@@ -30,13 +30,19 @@ impl<K: Key, T> StableList<K, T> {
     /// cursor of a removed element is never used again. No room is lost, and the capacity stays. It
     /// takes time linear in the number of elements.
     ///
-    /// ```ignore
-    /// let mut list = StableList::from_iter(alloc, vec![1, 2, 3]?).unwrap();
+    /// ```
+    /// # use slotmap_proved::{Global, Key, list};
+    /// # use slotmap_proved::list::{Cursor, StableList};
+    /// # fn main() -> Result<(), Box<dyn std::error::Error>> {
+    /// # let alloc = Global;
+    /// let mut list = StableList::from_iter(alloc, vec![1, 2, 3]).unwrap();
     /// list.retain(|_: Cursor, value| {
     ///     *value *= 10;
     ///     *value != 20
     /// });
     /// assert_eq!(list.to_vec(alloc)?.as_slice(), [10, 30].as_slice());
+    /// # Ok(())
+    /// # }
     /// ```
     ///
     /// # Proved
@@ -49,6 +55,8 @@ impl<K: Key, T> StableList<K, T> {
     /// ensures leaves { Leaves self.old.cursors self.new.cursors }
     /// ensures capacity { memory self.new ≡ memory self.old }
     /// ```
+    ///
+    /// Words: [`CallableInOrder`](crate::words#callableinorder), [`cursors`](crate::words#cursors-of-slotmap_list-sequence), [`elements`](crate::words#elements), [`IsSpent`](crate::words#isspent), [`KeepsSpent`](crate::words#keepsspent), [`Key`](crate::words#key), [`Leaves`](crate::words#leaves), [`memory`](crate::words#memory-of-slotmap_list-sequence), [`RetainsEach`](crate::words#retainseach), [`value_of`](crate::words#value_of-of-slotmap_list-sequence).
     #[inline]
     pub fn retain<F: FnMut(K, &mut T) -> bool>(&mut self, mut f: F)
     where

@@ -34,13 +34,19 @@ impl<K: Key, T> StableList<K, T> {
     ///   retired.
     /// - `Memory`: memory runs out.
     ///
-    /// ```ignore
+    /// ```
+    /// # use slotmap_proved::{Global, Key, list};
+    /// # use slotmap_proved::list::StableList;
+    /// # fn main() -> Result<(), Box<dyn std::error::Error>> {
+    /// # let alloc = Global;
     /// let mut list = StableList::new(alloc)?;
     /// list.reserve(2)?;
     /// let capacity = list.capacity();
     /// list.push_back(1)?;
     /// list.push_back(2)?;
     /// assert_eq!(list.capacity(), capacity);
+    /// # Ok(())
+    /// # }
     /// ```
     ///
     /// # Proved
@@ -57,6 +63,8 @@ impl<K: Key, T> StableList<K, T> {
     /// ensures keeps { Keeps self.old.cursors self.new.cursors }
     /// ensures gone { KeepsSpent self.old.cursors self.new.cursors }
     /// ```
+    ///
+    /// Words: [`capacity`](crate::words#capacity-of-slotmap_core-content), [`cursors`](crate::words#cursors-of-slotmap_list-sequence), [`elements`](crate::words#elements), [`Keeps`](crate::words#keeps), [`KeepsSpent`](crate::words#keepsspent), [`MakesRoom`](crate::words#makesroom), [`next`](crate::words#next), [`RefusesCapacity`](crate::words#refusescapacity), [`room`](crate::words#room-of-slotmap_core-content), [`used`](crate::words#used).
     #[inline(never)]
     pub fn reserve(&mut self, additional: usize) -> Result<(), ReserveError> {
         let capacity = self.values.capacity_for(additional)?;
@@ -69,12 +77,18 @@ impl<K: Key, T> StableList<K, T> {
     /// Returns how many elements there can be before more room is made, in constant time. It counts
     /// the slots that are retired.
     ///
-    /// ```ignore
+    /// ```
+    /// # use slotmap_proved::{Global, Key, list};
+    /// # use slotmap_proved::list::StableList;
+    /// # fn main() -> Result<(), Box<dyn std::error::Error>> {
+    /// # let alloc = Global;
     /// let mut list = StableList::with_capacity(alloc, 2)?;
     /// let capacity = list.capacity();
     /// assert!(capacity >= 2);
     /// list.push_back(1)?;
     /// assert_eq!(list.capacity(), capacity);
+    /// # Ok(())
+    /// # }
     /// ```
     ///
     /// # Proved
@@ -84,6 +98,8 @@ impl<K: Key, T> StableList<K, T> {
     /// ensures exact { result ≡ used self.now.cursors + self.now.cursors.room }
     /// ensures valid { IsContent true self.now.cursors }
     /// ```
+    ///
+    /// Words: [`bound`](crate::words#bound), [`cursors`](crate::words#cursors-of-slotmap_list-sequence), [`IsContent`](crate::words#iscontent), [`room`](crate::words#room-of-slotmap_core-content), [`used`](crate::words#used).
     #[inline]
     pub fn capacity(&self) -> usize {
         self.values.capacity()

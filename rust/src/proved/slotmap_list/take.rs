@@ -12,11 +12,17 @@ impl<K: Key, T> StableList<K, T> {
     /// cursor isn't in the list, the call returns `None` and changes nothing. No room is lost, and the
     /// capacity stays.
     ///
-    /// ```ignore
+    /// ```
+    /// # use slotmap_proved::{Global, Key, list};
+    /// # use slotmap_proved::list::StableList;
+    /// # fn main() -> Result<(), Box<dyn std::error::Error>> {
+    /// # let alloc = Global;
     /// let mut list = StableList::new(alloc)?;
     /// let one = list.push_back(1)?;
     /// assert_eq!(list.remove(one), Some(1));
     /// assert_eq!(list.remove(one), None);
+    /// # Ok(())
+    /// # }
     /// ```
     ///
     /// # Proved
@@ -32,6 +38,8 @@ impl<K: Key, T> StableList<K, T> {
     /// ensures capacity { memory self.new ≡ memory self.old }
     /// ensures stale { IfNone result (self.new ≡ self.old) }
     /// ```
+    ///
+    /// Words: [`cursors`](crate::words#cursors-of-slotmap_list-sequence), [`elements`](crate::words#elements), [`IsSpent`](crate::words#isspent), [`KeepsSpent`](crate::words#keepsspent), [`Leaves`](crate::words#leaves), [`memory`](crate::words#memory-of-slotmap_list-sequence), [`Removes`](crate::words#removes), [`value_of`](crate::words#value_of-of-slotmap_list-sequence), [`without`](crate::words#without-of-slotmap_list-sequence).
     #[inline]
     pub fn remove(&mut self, cursor: K) -> Option<T> {
         let value = self.values.remove(cursor)?;
@@ -42,12 +50,18 @@ impl<K: Key, T> StableList<K, T> {
     /// Removes the element at the front, and returns its cursor and its value, or `None` if the list
     /// is empty. The cursor is never used again. No room is lost, and the capacity stays.
     ///
-    /// ```ignore
+    /// ```
+    /// # use slotmap_proved::{Global, Key, list};
+    /// # use slotmap_proved::list::StableList;
+    /// # fn main() -> Result<(), Box<dyn std::error::Error>> {
+    /// # let alloc = Global;
     /// let mut list = StableList::new(alloc)?;
     /// let one = list.push_back(1)?;
     /// list.push_back(2)?;
     /// assert_eq!(list.pop_front(), Some((one, 1)));
     /// assert_eq!(list.to_vec(alloc)?.as_slice(), [2].as_slice());
+    /// # Ok(())
+    /// # }
     /// ```
     ///
     /// # Proved
@@ -62,6 +76,8 @@ impl<K: Key, T> StableList<K, T> {
     /// ensures capacity { memory self.new ≡ memory self.old }
     /// ensures empty { IfNone result (self.new ≡ self.old) }
     /// ```
+    ///
+    /// Words: [`cursors`](crate::words#cursors-of-slotmap_list-sequence), [`elements`](crate::words#elements), [`IsSpent`](crate::words#isspent), [`KeepsSpent`](crate::words#keepsspent), [`Leaves`](crate::words#leaves), [`memory`](crate::words#memory-of-slotmap_list-sequence), [`Removes`](crate::words#removes), [`TakesFront`](crate::words#takesfront), [`value_of`](crate::words#value_of-of-slotmap_list-sequence).
     #[inline]
     pub fn pop_front(&mut self) -> Option<(K, T)> {
         let cursor = self.first()?;
@@ -72,12 +88,18 @@ impl<K: Key, T> StableList<K, T> {
     /// Removes the element at the back, and returns its cursor and its value, or `None` if the list
     /// is empty. The cursor is never used again. No room is lost, and the capacity stays.
     ///
-    /// ```ignore
+    /// ```
+    /// # use slotmap_proved::{Global, Key, list};
+    /// # use slotmap_proved::list::StableList;
+    /// # fn main() -> Result<(), Box<dyn std::error::Error>> {
+    /// # let alloc = Global;
     /// let mut list = StableList::new(alloc)?;
     /// list.push_back(1)?;
     /// let two = list.push_back(2)?;
     /// assert_eq!(list.pop_back(), Some((two, 2)));
     /// assert_eq!(list.to_vec(alloc)?.as_slice(), [1].as_slice());
+    /// # Ok(())
+    /// # }
     /// ```
     ///
     /// # Proved
@@ -92,6 +114,8 @@ impl<K: Key, T> StableList<K, T> {
     /// ensures capacity { memory self.new ≡ memory self.old }
     /// ensures empty { IfNone result (self.new ≡ self.old) }
     /// ```
+    ///
+    /// Words: [`cursors`](crate::words#cursors-of-slotmap_list-sequence), [`elements`](crate::words#elements), [`IsSpent`](crate::words#isspent), [`KeepsSpent`](crate::words#keepsspent), [`Leaves`](crate::words#leaves), [`memory`](crate::words#memory-of-slotmap_list-sequence), [`Removes`](crate::words#removes), [`TakesBack`](crate::words#takesback), [`value_of`](crate::words#value_of-of-slotmap_list-sequence).
     #[inline]
     pub fn pop_back(&mut self) -> Option<(K, T)> {
         let cursor = key_at(&self.values, self.links.last(0))?;
@@ -102,12 +126,18 @@ impl<K: Key, T> StableList<K, T> {
     /// Removes all elements. Their cursors are never used again. No room is lost, and the capacity
     /// stays.
     ///
-    /// ```ignore
+    /// ```
+    /// # use slotmap_proved::{Global, Key, list};
+    /// # use slotmap_proved::list::StableList;
+    /// # fn main() -> Result<(), Box<dyn std::error::Error>> {
+    /// # let alloc = Global;
     /// let mut list = StableList::new(alloc)?;
     /// let one = list.push_back(1)?;
     /// list.clear();
     /// assert!(list.is_empty());
     /// assert_eq!(list.get(one), None);
+    /// # Ok(())
+    /// # }
     /// ```
     ///
     /// # Proved
@@ -120,6 +150,8 @@ impl<K: Key, T> StableList<K, T> {
     /// ensures leaves { Leaves self.old.cursors self.new.cursors }
     /// ensures capacity { memory self.new ≡ memory self.old }
     /// ```
+    ///
+    /// Words: [`cursors`](crate::words#cursors-of-slotmap_list-sequence), [`elements`](crate::words#elements), [`IsSpent`](crate::words#isspent), [`KeepsSpent`](crate::words#keepsspent), [`Key`](crate::words#key), [`Leaves`](crate::words#leaves), [`live`](crate::words#live), [`memory`](crate::words#memory-of-slotmap_list-sequence), [`value_of`](crate::words#value_of-of-slotmap_list-sequence).
     #[inline]
     pub fn clear(&mut self) {
         while self.pop_front().is_some() {}

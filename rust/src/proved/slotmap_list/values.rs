@@ -102,11 +102,17 @@ impl<K: Key, T> StableList<K, T> {
     ///
     /// Constant time.
     ///
-    /// ```ignore
+    /// ```
+    /// # use slotmap_proved::{Global, Key, list};
+    /// # use slotmap_proved::list::StableList;
+    /// # fn main() -> Result<(), Box<dyn std::error::Error>> {
+    /// # let alloc = Global;
     /// let mut list = StableList::new(alloc)?;
     /// list.push_back(1)?;
     /// list.push_back(2)?;
     /// assert_eq!(list.front(), Some(&1));
+    /// # Ok(())
+    /// # }
     /// ```
     ///
     /// # Proved
@@ -114,6 +120,8 @@ impl<K: Key, T> StableList<K, T> {
     /// ```text
     /// ensures { option_copied result ≡ slice_get (list_map (λ e. e.1) self.now.elements) 0 }
     /// ```
+    ///
+    /// Words: [`elements`](crate::words#elements).
     #[inline]
     pub fn front(&self) -> Option<&T> {
         self.values().next()
@@ -123,11 +131,17 @@ impl<K: Key, T> StableList<K, T> {
     ///
     /// Constant time.
     ///
-    /// ```ignore
+    /// ```
+    /// # use slotmap_proved::{Global, Key, list};
+    /// # use slotmap_proved::list::StableList;
+    /// # fn main() -> Result<(), Box<dyn std::error::Error>> {
+    /// # let alloc = Global;
     /// let mut list = StableList::new(alloc)?;
     /// list.push_back(1)?;
     /// list.push_back(2)?;
     /// assert_eq!(list.back(), Some(&2));
+    /// # Ok(())
+    /// # }
     /// ```
     ///
     /// # Proved
@@ -135,6 +149,8 @@ impl<K: Key, T> StableList<K, T> {
     /// ```text
     /// ensures { option_copied result ≡ slice_get (list_map (λ e. e.1) self.now.elements) (length self.now.elements - 1) }
     /// ```
+    ///
+    /// Words: [`elements`](crate::words#elements).
     #[inline]
     pub fn back(&self) -> Option<&T> {
         self.values().next_back()
@@ -145,13 +161,19 @@ impl<K: Key, T> StableList<K, T> {
     ///
     /// It is made in constant time, and each step takes constant time.
     ///
-    /// ```ignore
+    /// ```
+    /// # use slotmap_proved::{Global, Key, list};
+    /// # use slotmap_proved::list::StableList;
+    /// # fn main() -> Result<(), Box<dyn std::error::Error>> {
+    /// # let alloc = Global;
     /// let mut list = StableList::new(alloc)?;
     /// let one = list.push_back(1)?;
     /// let two = list.push_back(2)?;
     /// let mut cursors = list.cursors();
     /// assert_eq!(cursors.next_back(), Some(two));
     /// assert_eq!(cursors.next(), Some(one));
+    /// # Ok(())
+    /// # }
     /// ```
     ///
     /// # Proved
@@ -159,6 +181,8 @@ impl<K: Key, T> StableList<K, T> {
     /// ```text
     /// ensures { result ≡ list_map (λ e. e.0) self.now.elements }
     /// ```
+    ///
+    /// Words: [`elements`](crate::words#elements).
     #[inline]
     pub fn cursors(&self) -> Cursors<'_, K, T> {
         Cursors {
@@ -171,13 +195,19 @@ impl<K: Key, T> StableList<K, T> {
     ///
     /// It is made in constant time, and each step takes constant time.
     ///
-    /// ```ignore
+    /// ```
+    /// # use slotmap_proved::{Global, Key, list};
+    /// # use slotmap_proved::list::StableList;
+    /// # fn main() -> Result<(), Box<dyn std::error::Error>> {
+    /// # let alloc = Global;
     /// let mut list = StableList::new(alloc)?;
     /// list.push_back(1)?;
     /// list.push_back(2)?;
     /// let mut values = list.values();
     /// assert_eq!(values.next_back(), Some(&2));
     /// assert_eq!(values.next(), Some(&1));
+    /// # Ok(())
+    /// # }
     /// ```
     ///
     /// # Proved
@@ -185,6 +215,8 @@ impl<K: Key, T> StableList<K, T> {
     /// ```text
     /// ensures { result ≡ list_map (λ e. e.1) self.now.elements }
     /// ```
+    ///
+    /// Words: [`elements`](crate::words#elements).
     #[inline]
     pub fn values(&self) -> Values<'_, K, T> {
         Values {

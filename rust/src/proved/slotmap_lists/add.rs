@@ -59,12 +59,18 @@ impl<K: Key, T> StableLists<K, T> {
     /// stays. If the call fails, the error holds the value, and the lists have the same elements.
     /// Constant time on average.
     ///
-    /// ```ignore
+    /// ```
+    /// # use slotmap_proved::{Global, Key, lists};
+    /// # use slotmap_proved::lists::{AddError, StableLists};
+    /// # fn main() -> Result<(), Box<dyn std::error::Error>> {
+    /// # let alloc = Global;
     /// let mut lists = StableLists::new(alloc, 2)?;
     /// let one = lists.push_front(1, 1)?;
     /// let two = lists.push_front(1, 2)?;
     /// assert_eq!((lists.first(1), lists.last(1)), (Some(two), Some(one)));
     /// assert!(matches!(lists.push_front(2, 3), Err(AddError::NoList(3))));
+    /// # Ok(())
+    /// # }
     /// ```
     ///
     /// # Proved
@@ -92,6 +98,8 @@ impl<K: Key, T> StableLists<K, T> {
     /// ensures keeps { OnErr result (Keeps self.old.cursors self.new.cursors) }
     /// ensures gone { KeepsSpent self.old.cursors self.new.cursors }
     /// ```
+    ///
+    /// Words: [`capacity`](crate::words#capacity-of-slotmap_core-content), [`cursors`](crate::words#cursors-of-slotmap_lists-sequences), [`elements_of`](crate::words#elements_of), [`first_or`](crate::words#first_or-of-slotmap_list-sequence), [`HasVacant`](crate::words#hasvacant), [`Inserts`](crate::words#inserts), [`IsSpent`](crate::words#isspent), [`Keeps`](crate::words#keeps), [`KeepsSpent`](crate::words#keepsspent), [`Key`](crate::words#key), [`lists`](crate::words#lists), [`memory`](crate::words#memory-of-slotmap_lists-sequences), [`number_with`](crate::words#number_with), [`RefusesAdd`](crate::words#refusesadd), [`room`](crate::words#room-of-slotmap_core-content), [`used`](crate::words#used), [`value_under`](crate::words#value_under), [`with_elements`](crate::words#with_elements).
     #[inline]
     pub fn push_front(&mut self, list: usize, value: T) -> Result<K, AddError<T>> {
         self.add(list, Place::Front, value)
@@ -104,12 +112,18 @@ impl<K: Key, T> StableLists<K, T> {
     /// stays. If the call fails, the error holds the value, and the lists have the same elements.
     /// Constant time on average.
     ///
-    /// ```ignore
+    /// ```
+    /// # use slotmap_proved::{Global, Key, lists};
+    /// # use slotmap_proved::lists::{AddError, StableLists};
+    /// # fn main() -> Result<(), Box<dyn std::error::Error>> {
+    /// # let alloc = Global;
     /// let mut lists = StableLists::new(alloc, 2)?;
     /// let one = lists.push_back(1, 1)?;
     /// let two = lists.push_back(1, 2)?;
     /// assert_eq!((lists.first(1), lists.last(1)), (Some(one), Some(two)));
     /// assert!(matches!(lists.push_back(2, 3), Err(AddError::NoList(3))));
+    /// # Ok(())
+    /// # }
     /// ```
     ///
     /// # Proved
@@ -137,6 +151,8 @@ impl<K: Key, T> StableLists<K, T> {
     /// ensures keeps { OnErr result (Keeps self.old.cursors self.new.cursors) }
     /// ensures gone { KeepsSpent self.old.cursors self.new.cursors }
     /// ```
+    ///
+    /// Words: [`capacity`](crate::words#capacity-of-slotmap_core-content), [`cursors`](crate::words#cursors-of-slotmap_lists-sequences), [`elements_of`](crate::words#elements_of), [`HasVacant`](crate::words#hasvacant), [`Inserts`](crate::words#inserts), [`IsSpent`](crate::words#isspent), [`Keeps`](crate::words#keeps), [`KeepsSpent`](crate::words#keepsspent), [`Key`](crate::words#key), [`last_or`](crate::words#last_or-of-slotmap_list-sequence), [`lists`](crate::words#lists), [`memory`](crate::words#memory-of-slotmap_lists-sequences), [`number_with`](crate::words#number_with), [`RefusesAdd`](crate::words#refusesadd), [`room`](crate::words#room-of-slotmap_core-content), [`used`](crate::words#used), [`value_under`](crate::words#value_under), [`with_elements`](crate::words#with_elements).
     #[inline]
     pub fn push_back(&mut self, list: usize, value: T) -> Result<K, AddError<T>> {
         self.add(list, Place::Back, value)

@@ -16,13 +16,19 @@ impl<K: Key, T> StableLists<K, T> {
     /// is vacant or room was reserved, it fails for no other reason, and the capacity stays. If the call
     /// fails, the error holds the value, and the lists have the same elements. Constant time on average.
     ///
-    /// ```ignore
+    /// ```
+    /// # use slotmap_proved::{Global, Key, lists};
+    /// # use slotmap_proved::lists::{PlaceError, StableLists};
+    /// # fn main() -> Result<(), Box<dyn std::error::Error>> {
+    /// # let alloc = Global;
     /// let mut lists = StableLists::new(alloc, 2)?;
     /// let one = lists.push_back(1, 1)?;
     /// let two = lists.insert_before(one, 2)?;
     /// assert_eq!((lists.list_of(two), lists.prev(one)), (Some(1), Some(two)));
     /// lists.remove(one);
     /// assert!(matches!(lists.insert_before(one, 3), Err(PlaceError::Gone(3))));
+    /// # Ok(())
+    /// # }
     /// ```
     ///
     /// # Proved
@@ -50,6 +56,8 @@ impl<K: Key, T> StableLists<K, T> {
     /// ensures keeps { OnErr result (Keeps self.old.cursors self.new.cursors) }
     /// ensures gone { KeepsSpent self.old.cursors self.new.cursors }
     /// ```
+    ///
+    /// Words: [`capacity`](crate::words#capacity-of-slotmap_core-content), [`cursors`](crate::words#cursors-of-slotmap_lists-sequences), [`elements_of`](crate::words#elements_of), [`HasVacant`](crate::words#hasvacant), [`Inserts`](crate::words#inserts), [`IsSpent`](crate::words#isspent), [`Keeps`](crate::words#keeps), [`KeepsSpent`](crate::words#keepsspent), [`Key`](crate::words#key), [`key_before`](crate::words#key_before), [`list_with`](crate::words#list_with), [`lists`](crate::words#lists), [`memory`](crate::words#memory-of-slotmap_lists-sequences), [`number_with`](crate::words#number_with), [`put_before`](crate::words#put_before), [`RefusesBeside`](crate::words#refusesbeside-of-slotmap_lists-refused), [`room`](crate::words#room-of-slotmap_core-content), [`used`](crate::words#used), [`value_under`](crate::words#value_under).
     #[inline]
     pub fn insert_before(&mut self, cursor: K, value: T) -> Result<K, PlaceError<T>> {
         if !self.contains(cursor) {
@@ -69,13 +77,19 @@ impl<K: Key, T> StableLists<K, T> {
     /// is vacant or room was reserved, it fails for no other reason, and the capacity stays. If the call
     /// fails, the error holds the value, and the lists have the same elements. Constant time on average.
     ///
-    /// ```ignore
+    /// ```
+    /// # use slotmap_proved::{Global, Key, lists};
+    /// # use slotmap_proved::lists::{PlaceError, StableLists};
+    /// # fn main() -> Result<(), Box<dyn std::error::Error>> {
+    /// # let alloc = Global;
     /// let mut lists = StableLists::new(alloc, 2)?;
     /// let one = lists.push_back(1, 1)?;
     /// let two = lists.insert_after(one, 2)?;
     /// assert_eq!((lists.list_of(two), lists.next(one)), (Some(1), Some(two)));
     /// lists.remove(one);
     /// assert!(matches!(lists.insert_after(one, 3), Err(PlaceError::Gone(3))));
+    /// # Ok(())
+    /// # }
     /// ```
     ///
     /// # Proved
@@ -103,6 +117,8 @@ impl<K: Key, T> StableLists<K, T> {
     /// ensures keeps { OnErr result (Keeps self.old.cursors self.new.cursors) }
     /// ensures gone { KeepsSpent self.old.cursors self.new.cursors }
     /// ```
+    ///
+    /// Words: [`capacity`](crate::words#capacity-of-slotmap_core-content), [`cursors`](crate::words#cursors-of-slotmap_lists-sequences), [`elements_of`](crate::words#elements_of), [`HasVacant`](crate::words#hasvacant), [`Inserts`](crate::words#inserts), [`IsSpent`](crate::words#isspent), [`Keeps`](crate::words#keeps), [`KeepsSpent`](crate::words#keepsspent), [`Key`](crate::words#key), [`key_after`](crate::words#key_after-of-slotmap_list-sequence), [`list_with`](crate::words#list_with), [`lists`](crate::words#lists), [`memory`](crate::words#memory-of-slotmap_lists-sequences), [`number_with`](crate::words#number_with), [`put_after`](crate::words#put_after), [`RefusesBeside`](crate::words#refusesbeside-of-slotmap_lists-refused), [`room`](crate::words#room-of-slotmap_core-content), [`used`](crate::words#used), [`value_under`](crate::words#value_under).
     #[inline]
     pub fn insert_after(&mut self, cursor: K, value: T) -> Result<K, PlaceError<T>> {
         if !self.contains(cursor) {

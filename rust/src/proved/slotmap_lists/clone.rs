@@ -15,12 +15,18 @@ impl<K: Key, T: Clone> StableLists<K, T> {
     /// runs out, or the clone of a value fails, the call fails, and what was copied is dropped. It takes
     /// time linear in the capacity and in the number of lists.
     ///
-    /// ```ignore
+    /// ```
+    /// # use slotmap_proved::{Global, Key, lists};
+    /// # use slotmap_proved::lists::StableLists;
+    /// # fn main() -> Result<(), Box<dyn std::error::Error>> {
+    /// # let alloc = Global;
     /// let mut lists = StableLists::new(alloc, 2)?;
     /// let one = lists.push_back(1, 1)?;
     /// let copy = lists.clone()?;
     /// lists.remove(one);
     /// assert_eq!((copy.get(one), copy.list_of(one)), (Some(&1), Some(1)));
+    /// # Ok(())
+    /// # }
     /// ```
     ///
     /// # Proved
@@ -33,6 +39,8 @@ impl<K: Key, T: Clone> StableLists<K, T> {
     /// ensures capacity { IfOk result (λ copy. bound copy.cursors ≡ bound self.now.cursors) }
     /// ensures room { IfOk result (λ copy. copy.cursors.room ≡ self.now.cursors.room) }
     /// ```
+    ///
+    /// Words: [`AreClones`](crate::words#areclones), [`bound`](crate::words#bound), [`ClonesEqual`](crate::words#clonesequal), [`cursors`](crate::words#cursors-of-slotmap_lists-sequences), [`elements_of`](crate::words#elements_of), [`IsCopy`](crate::words#iscopy), [`lists`](crate::words#lists), [`room`](crate::words#room-of-slotmap_core-content).
     #[inline]
     pub fn clone(&self) -> Result<Self, AllocError> {
         Ok(StableLists {

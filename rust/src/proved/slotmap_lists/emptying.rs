@@ -13,13 +13,19 @@ impl<K: Key, T> StableLists<K, T> {
     ///
     /// It takes time linear in the number of elements of the list.
     ///
-    /// ```ignore
+    /// ```
+    /// # use slotmap_proved::{Global, Key, lists};
+    /// # use slotmap_proved::lists::StableLists;
+    /// # fn main() -> Result<(), Box<dyn std::error::Error>> {
+    /// # let alloc = Global;
     /// let mut lists = StableLists::new(alloc, 2)?;
     /// let one = lists.push_back(0, 1)?;
     /// lists.push_back(1, 2)?;
     /// lists.clear_list(0);
     /// assert_eq!((lists.list_len(0), lists.list_len(1)), (0, 1));
     /// assert_eq!(lists.get(one), None);
+    /// # Ok(())
+    /// # }
     /// ```
     ///
     /// # Proved
@@ -35,6 +41,8 @@ impl<K: Key, T> StableLists<K, T> {
     /// ensures capacity { memory self.new ≡ memory self.old }
     /// ensures unchanged { elements_of list self.old.lists ≡ [] → self.new ≡ self.old }
     /// ```
+    ///
+    /// Words: [`cursors`](crate::words#cursors-of-slotmap_lists-sequences), [`elements_of`](crate::words#elements_of), [`IsSpent`](crate::words#isspent), [`KeepsSpent`](crate::words#keepsspent), [`Key`](crate::words#key), [`Leaves`](crate::words#leaves), [`lists`](crate::words#lists), [`memory`](crate::words#memory-of-slotmap_lists-sequences), [`value_of`](crate::words#value_of-of-slotmap_list-sequence), [`value_under`](crate::words#value_under).
     #[inline]
     pub fn clear_list(&mut self, list: usize) {
         while self.pop_front(list).is_some() {}
@@ -46,7 +54,11 @@ impl<K: Key, T> StableLists<K, T> {
     /// The elements keep their cursors and their values, and the capacity stays. It takes time linear in
     /// the number of elements of `other`, since each of them says which list it is in.
     ///
-    /// ```ignore
+    /// ```
+    /// # use slotmap_proved::{Global, Key, lists};
+    /// # use slotmap_proved::lists::StableLists;
+    /// # fn main() -> Result<(), Box<dyn std::error::Error>> {
+    /// # let alloc = Global;
     /// let mut lists = StableLists::new(alloc, 2)?;
     /// let one = lists.push_back(0, 1)?;
     /// let two = lists.push_back(1, 2)?;
@@ -54,6 +66,8 @@ impl<K: Key, T> StableLists<K, T> {
     /// assert_eq!((lists.next(one), lists.list_of(two)), (Some(two), Some(0)));
     /// assert_eq!((lists.list_len(0), lists.list_len(1)), (2, 0));
     /// assert!(!lists.append(0, 0));
+    /// # Ok(())
+    /// # }
     /// ```
     ///
     /// # Proved
@@ -69,6 +83,8 @@ impl<K: Key, T> StableLists<K, T> {
     /// ensures links { self.new.links ≡ self.old.links }
     /// ensures unchanged { result ≡ false → self.new ≡ self.old }
     /// ```
+    ///
+    /// Words: [`cursors`](crate::words#cursors-of-slotmap_lists-sequences), [`elements_of`](crate::words#elements_of), [`Key`](crate::words#key), [`links`](crate::words#links-of-slotmap_lists-sequences), [`lists`](crate::words#lists), [`value_under`](crate::words#value_under).
     #[inline]
     pub fn append(&mut self, list: usize, other: usize) -> bool {
         if list == other || list >= self.lists() || other >= self.lists() {

@@ -60,7 +60,11 @@ impl<K: Key, T> StableLists<K, T> {
     ///
     /// It is made in constant time, and each step takes constant time.
     ///
-    /// ```ignore
+    /// ```
+    /// # use slotmap_proved::{Global, Key, lists};
+    /// # use slotmap_proved::lists::StableLists;
+    /// # fn main() -> Result<(), Box<dyn std::error::Error>> {
+    /// # let alloc = Global;
     /// let mut lists = StableLists::new(alloc, 2)?;
     /// let one = lists.push_back(1, 1)?;
     /// let two = lists.push_back(1, 2)?;
@@ -70,6 +74,8 @@ impl<K: Key, T> StableLists<K, T> {
     ///     assert_eq!(elements.next(), None);
     /// }
     /// assert!(lists.iter(2).is_none());
+    /// # Ok(())
+    /// # }
     /// ```
     ///
     /// # Proved
@@ -79,6 +85,8 @@ impl<K: Key, T> StableLists<K, T> {
     /// ensures once { IfSome result IsOnce }
     /// ensures which { IsSome result ↔ (list < length self.now.lists) }
     /// ```
+    ///
+    /// Words: [`elements_of`](crate::words#elements_of), [`IsOnce`](crate::words#isonce-of-slotmap_list-sequence), [`lists`](crate::words#lists).
     #[inline]
     pub fn iter(&self, list: usize) -> Option<Iter<'_, K, T>> {
         if list >= self.lists() {

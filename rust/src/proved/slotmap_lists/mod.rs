@@ -32,7 +32,11 @@
 //! Here is a cache with two segments. What is new stands in the first, and what was used again in the
 //! second:
 //!
-//! ```ignore
+//! ```
+//! # use slotmap_proved::{Global, Key};
+//! # use slotmap_proved::lists::StableLists;
+//! # fn main() -> Result<(), Box<dyn std::error::Error>> {
+//! # let alloc = Global;
 //! let mut cache = StableLists::new(alloc, 2)?;
 //! let one = cache.push_front(0, 1)?;
 //! cache.push_front(0, 2)?;
@@ -40,6 +44,8 @@
 //! assert_eq!(cache.list_of(one), Some(1));
 //! assert_eq!(cache.get(one), Some(&1));
 //! assert_eq!((cache.list_len(0), cache.list_len(1)), (1, 1));
+//! # Ok(())
+//! # }
 //! ```
 
 #[allow(unused_imports)]
@@ -124,9 +130,15 @@ impl<T> StableLists<Cursor, T> {
     /// It fails with `TooGreat` if `lists` is over 4294967294, and with `Memory` if memory runs out. It
     /// takes time linear in `lists`.
     ///
-    /// ```ignore
+    /// ```
+    /// # use slotmap_proved::{Global, Key, lists};
+    /// # use slotmap_proved::lists::{Cursor, StableLists};
+    /// # fn main() -> Result<(), Box<dyn std::error::Error>> {
+    /// # let alloc = Global;
     /// let lists: StableLists<Cursor, u64> = StableLists::new(alloc, 2)?;
     /// assert_eq!((lists.lists(), lists.len()), (2, 0));
+    /// # Ok(())
+    /// # }
     /// ```
     ///
     /// # Proved
@@ -136,6 +148,8 @@ impl<T> StableLists<Cursor, T> {
     /// ensures cursors { IfOk result (λ made. IsNew made.cursors) }
     /// ensures err { IfErr result (RefusesCapacity lists) }
     /// ```
+    ///
+    /// Words: [`cursors`](crate::words#cursors-of-slotmap_lists-sequences), [`IsNew`](crate::words#isnew), [`lists`](crate::words#lists), [`RefusesCapacity`](crate::words#refusescapacity).
     #[inline]
     pub fn new(alloc: Global, lists: usize) -> Result<Self, ReserveError> {
         StableLists::with_key(alloc, lists)
@@ -148,9 +162,15 @@ impl<T> StableLists<Cursor, T> {
     /// with `TooGreat` if `lists` or `capacity` is over 4294967294, and with `Memory` if memory runs out.
     /// It takes time linear in both.
     ///
-    /// ```ignore
+    /// ```
+    /// # use slotmap_proved::{Global, Key, lists};
+    /// # use slotmap_proved::lists::{Cursor, StableLists};
+    /// # fn main() -> Result<(), Box<dyn std::error::Error>> {
+    /// # let alloc = Global;
     /// let lists: StableLists<Cursor, u64> = StableLists::with_capacity(alloc, 2, 8)?;
     /// assert_eq!(lists.lists(), 2);
+    /// # Ok(())
+    /// # }
     /// ```
     ///
     /// # Proved
@@ -161,6 +181,8 @@ impl<T> StableLists<Cursor, T> {
     /// ensures room { IfOk result (λ made. capacity ≤ made.cursors.room) }
     /// ensures err { IfErr result (RefusesCapacity (max lists capacity)) }
     /// ```
+    ///
+    /// Words: [`cursors`](crate::words#cursors-of-slotmap_lists-sequences), [`IsNew`](crate::words#isnew), [`lists`](crate::words#lists), [`RefusesCapacity`](crate::words#refusescapacity), [`room`](crate::words#room-of-slotmap_core-content).
     #[inline]
     pub fn with_capacity(alloc: Global, lists: usize, capacity: usize) -> Result<Self, ReserveError> {
         StableLists::with_capacity_and_key(alloc, lists, capacity)
@@ -173,9 +195,15 @@ impl<K: Key, T> StableLists<K, T> {
     /// It fails with `TooGreat` if `lists` is over 4294967294, and with `Memory` if memory runs out. It
     /// takes time linear in `lists`.
     ///
-    /// ```ignore
+    /// ```
+    /// # use slotmap_proved::{Global, Key, lists, NodeKey};
+    /// # use slotmap_proved::lists::StableLists;
+    /// # fn main() -> Result<(), Box<dyn std::error::Error>> {
+    /// # let alloc = Global;
     /// let lists: StableLists<NodeKey, u64> = StableLists::with_key(alloc, 2)?;
     /// assert!(lists.is_empty());
+    /// # Ok(())
+    /// # }
     /// ```
     ///
     /// # Proved
@@ -185,6 +213,8 @@ impl<K: Key, T> StableLists<K, T> {
     /// ensures cursors { IfOk result (λ made. IsNew made.cursors) }
     /// ensures err { IfErr result (RefusesCapacity lists) }
     /// ```
+    ///
+    /// Words: [`cursors`](crate::words#cursors-of-slotmap_lists-sequences), [`IsNew`](crate::words#isnew), [`lists`](crate::words#lists), [`RefusesCapacity`](crate::words#refusescapacity).
     #[inline]
     pub fn with_key(alloc: Global, lists: usize) -> Result<Self, ReserveError> {
         StableLists::with_capacity_and_key(alloc, lists, 0)
@@ -196,18 +226,15 @@ impl<K: Key, T> StableLists<K, T> {
     /// with `TooGreat` if `lists` or `capacity` is over 4294967294, and with `Memory` if memory runs out.
     /// It takes time linear in both.
     ///
-    /// ```ignore
+    /// ```
+    /// # use slotmap_proved::{Global, Key, lists, NodeKey};
+    /// # use slotmap_proved::lists::StableLists;
+    /// # fn main() -> Result<(), Box<dyn std::error::Error>> {
+    /// # let alloc = Global;
     /// let lists: StableLists<NodeKey, u64> = StableLists::with_capacity_and_key(alloc, 2, 8)?;
     /// assert_eq!((lists.list_len(0), lists.list_len(1)), (0, 0));
-    /// ```
-    ///
-    /// # Proved
-    ///
-    /// ```text
-    /// ensures empty { IfOk result (λ made. made.lists ≡ replicate lists []) }
-    /// ensures cursors { IfOk result (λ made. IsNew made.cursors) }
-    /// ensures room { IfOk result (λ made. capacity ≤ made.cursors.room) }
-    /// ensures err { IfErr result (RefusesCapacity (max lists capacity)) }
+    /// # Ok(())
+    /// # }
     /// ```
     #[inline]
     pub fn with_capacity_and_key(
@@ -234,9 +261,15 @@ impl<K: Key, T> StableLists<K, T> {
 
     /// Returns the number of lists, in constant time. They have the numbers below it.
     ///
-    /// ```ignore
+    /// ```
+    /// # use slotmap_proved::{Global, Key, lists};
+    /// # use slotmap_proved::lists::{Cursor, StableLists};
+    /// # fn main() -> Result<(), Box<dyn std::error::Error>> {
+    /// # let alloc = Global;
     /// let lists: StableLists<Cursor, u64> = StableLists::new(alloc, 3)?;
     /// assert_eq!(lists.lists(), 3);
+    /// # Ok(())
+    /// # }
     /// ```
     ///
     /// # Proved
@@ -245,6 +278,8 @@ impl<K: Key, T> StableLists<K, T> {
     /// ensures value { result ≡ length self.now.lists }
     /// ensures limit { result < 2 ^ 32 }
     /// ```
+    ///
+    /// Words: [`lists`](crate::words#lists).
     #[inline]
     pub fn lists(&self) -> usize {
         self.links.owners()
@@ -253,11 +288,17 @@ impl<K: Key, T> StableLists<K, T> {
     /// Returns the number of elements in all lists, in constant time. Each is in one list, and there
     /// once.
     ///
-    /// ```ignore
+    /// ```
+    /// # use slotmap_proved::{Global, Key, lists};
+    /// # use slotmap_proved::lists::StableLists;
+    /// # fn main() -> Result<(), Box<dyn std::error::Error>> {
+    /// # let alloc = Global;
     /// let mut lists = StableLists::new(alloc, 2)?;
     /// lists.push_back(0, 1)?;
     /// lists.push_back(1, 2)?;
     /// assert_eq!(lists.len(), 2);
+    /// # Ok(())
+    /// # }
     /// ```
     ///
     /// # Proved
@@ -268,6 +309,8 @@ impl<K: Key, T> StableLists<K, T> {
     /// ensures live { result ≡ map.len self.now.cursors.live }
     /// ensures same_keys { (k : KeyOf) → map.contains_key self.now.cursors.live k ≡ is_some (value_under k self.now.lists) }
     /// ```
+    ///
+    /// Words: [`all_elements`](crate::words#all_elements), [`cursors`](crate::words#cursors-of-slotmap_lists-sequences), [`IsOnce`](crate::words#isonce-of-slotmap_list-sequence), [`Key`](crate::words#key), [`lists`](crate::words#lists), [`live`](crate::words#live), [`value_under`](crate::words#value_under).
     #[inline]
     pub fn len(&self) -> usize {
         self.values.len()
@@ -275,11 +318,17 @@ impl<K: Key, T> StableLists<K, T> {
 
     /// Returns whether no list has an element, in constant time.
     ///
-    /// ```ignore
+    /// ```
+    /// # use slotmap_proved::{Global, Key, lists};
+    /// # use slotmap_proved::lists::StableLists;
+    /// # fn main() -> Result<(), Box<dyn std::error::Error>> {
+    /// # let alloc = Global;
     /// let mut lists = StableLists::new(alloc, 2)?;
     /// assert!(lists.is_empty());
     /// lists.push_back(1, 2)?;
     /// assert!(!lists.is_empty());
+    /// # Ok(())
+    /// # }
     /// ```
     ///
     /// # Proved
@@ -287,6 +336,8 @@ impl<K: Key, T> StableLists<K, T> {
     /// ```text
     /// ensures { IsTrue result ↔ (length (all_elements self.now.lists) ≡ 0) }
     /// ```
+    ///
+    /// Words: [`all_elements`](crate::words#all_elements), [`lists`](crate::words#lists).
     #[inline]
     pub fn is_empty(&self) -> bool {
         self.len() == 0
@@ -294,10 +345,16 @@ impl<K: Key, T> StableLists<K, T> {
 
     /// Returns the number of elements of a list, in constant time; of one that isn't there, 0.
     ///
-    /// ```ignore
+    /// ```
+    /// # use slotmap_proved::{Global, Key, lists};
+    /// # use slotmap_proved::lists::StableLists;
+    /// # fn main() -> Result<(), Box<dyn std::error::Error>> {
+    /// # let alloc = Global;
     /// let mut lists = StableLists::new(alloc, 2)?;
     /// lists.push_back(1, 2)?;
     /// assert_eq!((lists.list_len(0), lists.list_len(1), lists.list_len(2)), (0, 1, 0));
+    /// # Ok(())
+    /// # }
     /// ```
     ///
     /// # Proved
@@ -305,6 +362,8 @@ impl<K: Key, T> StableLists<K, T> {
     /// ```text
     /// ensures { result ≡ length (elements_of list self.now.lists) }
     /// ```
+    ///
+    /// Words: [`elements_of`](crate::words#elements_of), [`lists`](crate::words#lists).
     #[inline]
     pub fn list_len(&self, list: usize) -> usize {
         if list >= self.lists() {
@@ -315,12 +374,18 @@ impl<K: Key, T> StableLists<K, T> {
 
     /// Returns whether a cursor is in a list, in constant time.
     ///
-    /// ```ignore
+    /// ```
+    /// # use slotmap_proved::{Global, Key, lists};
+    /// # use slotmap_proved::lists::StableLists;
+    /// # fn main() -> Result<(), Box<dyn std::error::Error>> {
+    /// # let alloc = Global;
     /// let mut lists = StableLists::new(alloc, 1)?;
     /// let one = lists.push_back(0, 1)?;
     /// assert!(lists.contains(one));
     /// lists.remove(one);
     /// assert!(!lists.contains(one));
+    /// # Ok(())
+    /// # }
     /// ```
     ///
     /// # Proved
@@ -329,6 +394,8 @@ impl<K: Key, T> StableLists<K, T> {
     /// ensures value { result ≡ is_some (value_under (K.data_of cursor) self.now.lists) }
     /// ensures live { result ≡ map.contains_key self.now.cursors.live (K.data_of cursor) }
     /// ```
+    ///
+    /// Words: [`cursors`](crate::words#cursors-of-slotmap_lists-sequences), [`lists`](crate::words#lists), [`live`](crate::words#live), [`value_under`](crate::words#value_under).
     #[inline]
     pub fn contains(&self, cursor: K) -> bool {
         self.values.contains_key(cursor)
@@ -336,13 +403,19 @@ impl<K: Key, T> StableLists<K, T> {
 
     /// Returns the number of the list that a cursor is in, or `None` if it is in none. Constant time.
     ///
-    /// ```ignore
+    /// ```
+    /// # use slotmap_proved::{Global, Key, lists};
+    /// # use slotmap_proved::lists::StableLists;
+    /// # fn main() -> Result<(), Box<dyn std::error::Error>> {
+    /// # let alloc = Global;
     /// let mut lists = StableLists::new(alloc, 2)?;
     /// let one = lists.push_back(0, 1)?;
     /// lists.move_to_back(one, 1);
     /// assert_eq!(lists.list_of(one), Some(1));
     /// lists.remove(one);
     /// assert_eq!(lists.list_of(one), None);
+    /// # Ok(())
+    /// # }
     /// ```
     ///
     /// # Proved
@@ -350,6 +423,8 @@ impl<K: Key, T> StableLists<K, T> {
     /// ```text
     /// ensures { result ≡ number_with (K.data_of cursor) self.now.lists }
     /// ```
+    ///
+    /// Words: [`lists`](crate::words#lists), [`number_with`](crate::words#number_with).
     #[inline]
     pub fn list_of(&self, cursor: K) -> Option<usize> {
         if !self.contains(cursor) {
@@ -366,12 +441,18 @@ impl<K: Key, T> StableLists<K, T> {
 
     /// Returns the value of a cursor, or `None` if it is in no list. Constant time.
     ///
-    /// ```ignore
+    /// ```
+    /// # use slotmap_proved::{Global, Key, lists};
+    /// # use slotmap_proved::lists::StableLists;
+    /// # fn main() -> Result<(), Box<dyn std::error::Error>> {
+    /// # let alloc = Global;
     /// let mut lists = StableLists::new(alloc, 1)?;
     /// let one = lists.push_back(0, 1)?;
     /// assert_eq!(lists.get(one), Some(&1));
     /// lists.remove(one);
     /// assert_eq!(lists.get(one), None);
+    /// # Ok(())
+    /// # }
     /// ```
     ///
     /// # Proved
@@ -380,6 +461,8 @@ impl<K: Key, T> StableLists<K, T> {
     /// ensures value { option_copied result ≡ value_under (K.data_of cursor) self.now.lists }
     /// ensures gone { IsSpent self.now.cursors (K.data_of cursor) → result ≡ None }
     /// ```
+    ///
+    /// Words: [`cursors`](crate::words#cursors-of-slotmap_lists-sequences), [`IsSpent`](crate::words#isspent), [`lists`](crate::words#lists), [`value_under`](crate::words#value_under).
     #[inline]
     pub fn get(&self, cursor: K) -> Option<&T> {
         self.values.get(cursor)
@@ -388,11 +471,17 @@ impl<K: Key, T> StableLists<K, T> {
     /// Returns the cursor at the front of a list, or `None` if it is empty or isn't there. Constant
     /// time.
     ///
-    /// ```ignore
+    /// ```
+    /// # use slotmap_proved::{Global, Key, lists};
+    /// # use slotmap_proved::lists::StableLists;
+    /// # fn main() -> Result<(), Box<dyn std::error::Error>> {
+    /// # let alloc = Global;
     /// let mut lists = StableLists::new(alloc, 2)?;
     /// let one = lists.push_back(1, 1)?;
     /// lists.push_back(1, 2)?;
     /// assert_eq!((lists.first(0), lists.first(1)), (None, Some(one)));
+    /// # Ok(())
+    /// # }
     /// ```
     ///
     /// # Proved
@@ -402,6 +491,8 @@ impl<K: Key, T> StableLists<K, T> {
     /// ensures stands { IfSome result (λ key. is_some (value_under (K.data_of key) self.now.lists) ≡ true) }
     /// ensures in_list { IfSome result (λ key. number_with (K.data_of key) self.now.lists ≡ Some list) }
     /// ```
+    ///
+    /// Words: [`elements_of`](crate::words#elements_of), [`first_or`](crate::words#first_or-of-slotmap_list-sequence), [`lists`](crate::words#lists), [`number_with`](crate::words#number_with), [`value_under`](crate::words#value_under).
     #[inline]
     pub fn first(&self, list: usize) -> Option<K> {
         if list >= self.lists() {
@@ -412,11 +503,17 @@ impl<K: Key, T> StableLists<K, T> {
 
     /// Returns the cursor at the back of a list, or `None` if it is empty or isn't there. Constant time.
     ///
-    /// ```ignore
+    /// ```
+    /// # use slotmap_proved::{Global, Key, lists};
+    /// # use slotmap_proved::lists::StableLists;
+    /// # fn main() -> Result<(), Box<dyn std::error::Error>> {
+    /// # let alloc = Global;
     /// let mut lists = StableLists::new(alloc, 2)?;
     /// lists.push_back(1, 1)?;
     /// let two = lists.push_back(1, 2)?;
     /// assert_eq!((lists.last(0), lists.last(1)), (None, Some(two)));
+    /// # Ok(())
+    /// # }
     /// ```
     ///
     /// # Proved
@@ -426,6 +523,8 @@ impl<K: Key, T> StableLists<K, T> {
     /// ensures stands { IfSome result (λ key. is_some (value_under (K.data_of key) self.now.lists) ≡ true) }
     /// ensures in_list { IfSome result (λ key. number_with (K.data_of key) self.now.lists ≡ Some list) }
     /// ```
+    ///
+    /// Words: [`elements_of`](crate::words#elements_of), [`last_or`](crate::words#last_or-of-slotmap_list-sequence), [`lists`](crate::words#lists), [`number_with`](crate::words#number_with), [`value_under`](crate::words#value_under).
     #[inline]
     pub fn last(&self, list: usize) -> Option<K> {
         if list >= self.lists() {
@@ -437,11 +536,17 @@ impl<K: Key, T> StableLists<K, T> {
     /// Returns the cursor after this one in its list, or `None` at the back and for a cursor that is in
     /// no list. Constant time.
     ///
-    /// ```ignore
+    /// ```
+    /// # use slotmap_proved::{Global, Key, lists};
+    /// # use slotmap_proved::lists::StableLists;
+    /// # fn main() -> Result<(), Box<dyn std::error::Error>> {
+    /// # let alloc = Global;
     /// let mut lists = StableLists::new(alloc, 2)?;
     /// let one = lists.push_back(1, 1)?;
     /// let two = lists.push_back(1, 2)?;
     /// assert_eq!((lists.next(one), lists.next(two)), (Some(two), None));
+    /// # Ok(())
+    /// # }
     /// ```
     ///
     /// # Proved
@@ -451,6 +556,8 @@ impl<K: Key, T> StableLists<K, T> {
     /// ensures stands { IfSome result (λ key. is_some (value_under (K.data_of key) self.now.lists) ≡ true) }
     /// ensures in_list { IfSome result (λ key. number_with (K.data_of key) self.now.lists ≡ number_with (K.data_of cursor) self.now.lists) }
     /// ```
+    ///
+    /// Words: [`key_after`](crate::words#key_after-of-slotmap_list-sequence), [`list_with`](crate::words#list_with), [`lists`](crate::words#lists), [`number_with`](crate::words#number_with), [`value_under`](crate::words#value_under).
     #[inline]
     pub fn next(&self, cursor: K) -> Option<K> {
         if !self.values.contains_key(cursor) {
@@ -462,11 +569,17 @@ impl<K: Key, T> StableLists<K, T> {
     /// Returns the cursor before this one in its list, or `None` at the front and for a cursor that is
     /// in no list. Constant time.
     ///
-    /// ```ignore
+    /// ```
+    /// # use slotmap_proved::{Global, Key, lists};
+    /// # use slotmap_proved::lists::StableLists;
+    /// # fn main() -> Result<(), Box<dyn std::error::Error>> {
+    /// # let alloc = Global;
     /// let mut lists = StableLists::new(alloc, 2)?;
     /// let one = lists.push_back(1, 1)?;
     /// let two = lists.push_back(1, 2)?;
     /// assert_eq!((lists.prev(one), lists.prev(two)), (None, Some(one)));
+    /// # Ok(())
+    /// # }
     /// ```
     ///
     /// # Proved
@@ -476,6 +589,8 @@ impl<K: Key, T> StableLists<K, T> {
     /// ensures stands { IfSome result (λ key. is_some (value_under (K.data_of key) self.now.lists) ≡ true) }
     /// ensures in_list { IfSome result (λ key. number_with (K.data_of key) self.now.lists ≡ number_with (K.data_of cursor) self.now.lists) }
     /// ```
+    ///
+    /// Words: [`key_before`](crate::words#key_before), [`list_with`](crate::words#list_with), [`lists`](crate::words#lists), [`number_with`](crate::words#number_with), [`value_under`](crate::words#value_under).
     #[inline]
     pub fn prev(&self, cursor: K) -> Option<K> {
         if !self.values.contains_key(cursor) {

@@ -12,13 +12,19 @@ impl<K: Key, T> StableLists<K, T> {
     /// Returns a mutable reference to the value of a cursor, or `None` if it is in no list. Constant
     /// time.
     ///
-    /// ```ignore
+    /// ```
+    /// # use slotmap_proved::{Global, Key, lists};
+    /// # use slotmap_proved::lists::StableLists;
+    /// # fn main() -> Result<(), Box<dyn std::error::Error>> {
+    /// # let alloc = Global;
     /// let mut lists = StableLists::new(alloc, 1)?;
     /// let one = lists.push_back(0, 1)?;
     /// if let Some(value) = lists.get_mut(one) {
     ///     *value = 5;
     /// }
     /// assert_eq!(lists.get(one), Some(&5));
+    /// # Ok(())
+    /// # }
     /// ```
     ///
     /// # Proved
@@ -27,6 +33,8 @@ impl<K: Key, T> StableLists<K, T> {
     /// ensures* writes_back { sem 𝓛 (lends_in K.row T.row self.entry (K.data_of cursor) result) }
     /// ensures value { option_copied_mut result ≡ value_under (K.data_of cursor) self.old.lists }
     /// ```
+    ///
+    /// Words: [`lends_in`](crate::words#lends_in), [`lists`](crate::words#lists), [`value_under`](crate::words#value_under).
     #[inline]
     pub fn get_mut(&mut self, cursor: K) -> Option<&mut T> {
         match self.values.get_mut(cursor) {
@@ -41,26 +49,35 @@ impl<K: Key, T> StableLists<K, T> {
     ///
     /// Constant time. The element keeps its cursor and its value, and the capacity stays.
     ///
-    /// ```ignore
+    /// ```
+    /// # use slotmap_proved::{Global, Key, lists};
+    /// # use slotmap_proved::lists::StableLists;
+    /// # fn main() -> Result<(), Box<dyn std::error::Error>> {
+    /// # let alloc = Global;
     /// let mut lists = StableLists::new(alloc, 2)?;
     /// let one = lists.push_back(0, 1)?;
     /// let two = lists.push_back(1, 2)?;
     /// assert!(lists.move_to_front(one, 1));
     /// assert_eq!((lists.first(0), lists.first(1), lists.last(1)), (None, Some(one), Some(two)));
     /// assert!(!lists.move_to_front(one, 2));
+    /// # Ok(())
+    /// # }
     /// ```
     ///
     /// # Proved
     ///
     /// ```text
     /// ensures which { result ≡ can_move_to (K.data_of cursor) list self.old.lists }
-    /// ensures moved { self.new ≡ record self.old { lists = if result then moved_to_front_of (K.data_of cursor) list self.old.lists else self.old.lists } }
+    /// ensures moved { self.new ≡ record self.old
+    ///     { lists = if result then moved_to_front_of (K.data_of cursor) list self.old.lists else self.old.lists } }
     /// ensures in_list { IsTrue result → number_with (K.data_of cursor) self.new.lists ≡ Some list }
     /// ensures others { IsTrue result → (q : ℕ) → q ≢ list → elements_of q self.new.lists ≡ without (K.data_of cursor) (elements_of q self.old.lists) }
     /// ensures first { IsTrue result → first_or (elements_of list self.new.lists) None ≡ Some (K.data_of cursor) }
     /// ensures values { (q : KeyOf) → value_under q self.new.lists ≡ value_under q self.old.lists }
     /// ensures as_many { length self.new.lists ≡ length self.old.lists }
     /// ```
+    ///
+    /// Words: [`can_move_to`](crate::words#can_move_to), [`elements_of`](crate::words#elements_of), [`first_or`](crate::words#first_or-of-slotmap_list-sequence), [`Key`](crate::words#key), [`lists`](crate::words#lists), [`moved_to_front_of`](crate::words#moved_to_front_of), [`number_with`](crate::words#number_with), [`value_under`](crate::words#value_under), [`without`](crate::words#without-of-slotmap_list-sequence).
     #[inline]
     pub fn move_to_front(&mut self, cursor: K, list: usize) -> bool {
         if !self.can_move_to(cursor, list) {
@@ -76,26 +93,35 @@ impl<K: Key, T> StableLists<K, T> {
     ///
     /// Constant time. The element keeps its cursor and its value, and the capacity stays.
     ///
-    /// ```ignore
+    /// ```
+    /// # use slotmap_proved::{Global, Key, lists};
+    /// # use slotmap_proved::lists::StableLists;
+    /// # fn main() -> Result<(), Box<dyn std::error::Error>> {
+    /// # let alloc = Global;
     /// let mut lists = StableLists::new(alloc, 2)?;
     /// let one = lists.push_back(0, 1)?;
     /// let two = lists.push_back(1, 2)?;
     /// assert!(lists.move_to_back(one, 1));
     /// assert_eq!((lists.first(0), lists.first(1), lists.last(1)), (None, Some(two), Some(one)));
     /// assert!(!lists.move_to_back(one, 2));
+    /// # Ok(())
+    /// # }
     /// ```
     ///
     /// # Proved
     ///
     /// ```text
     /// ensures which { result ≡ can_move_to (K.data_of cursor) list self.old.lists }
-    /// ensures moved { self.new ≡ record self.old { lists = if result then moved_to_back_of (K.data_of cursor) list self.old.lists else self.old.lists } }
+    /// ensures moved { self.new ≡ record self.old
+    ///     { lists = if result then moved_to_back_of (K.data_of cursor) list self.old.lists else self.old.lists } }
     /// ensures in_list { IsTrue result → number_with (K.data_of cursor) self.new.lists ≡ Some list }
     /// ensures others { IsTrue result → (q : ℕ) → q ≢ list → elements_of q self.new.lists ≡ without (K.data_of cursor) (elements_of q self.old.lists) }
     /// ensures last { IsTrue result → last_or (elements_of list self.new.lists) None ≡ Some (K.data_of cursor) }
     /// ensures values { (q : KeyOf) → value_under q self.new.lists ≡ value_under q self.old.lists }
     /// ensures as_many { length self.new.lists ≡ length self.old.lists }
     /// ```
+    ///
+    /// Words: [`can_move_to`](crate::words#can_move_to), [`elements_of`](crate::words#elements_of), [`Key`](crate::words#key), [`last_or`](crate::words#last_or-of-slotmap_list-sequence), [`lists`](crate::words#lists), [`moved_to_back_of`](crate::words#moved_to_back_of), [`number_with`](crate::words#number_with), [`value_under`](crate::words#value_under), [`without`](crate::words#without-of-slotmap_list-sequence).
     #[inline]
     pub fn move_to_back(&mut self, cursor: K, list: usize) -> bool {
         if !self.can_move_to(cursor, list) {
@@ -110,26 +136,35 @@ impl<K: Key, T> StableLists<K, T> {
     ///
     /// Constant time. The element keeps its cursor and its value, and the capacity stays.
     ///
-    /// ```ignore
+    /// ```
+    /// # use slotmap_proved::{Global, Key, lists};
+    /// # use slotmap_proved::lists::StableLists;
+    /// # fn main() -> Result<(), Box<dyn std::error::Error>> {
+    /// # let alloc = Global;
     /// let mut lists = StableLists::new(alloc, 2)?;
     /// let one = lists.push_back(0, 1)?;
     /// let two = lists.push_back(1, 2)?;
     /// assert!(lists.move_before(one, two));
     /// assert_eq!((lists.first(0), lists.first(1), lists.last(1)), (None, Some(one), Some(two)));
     /// assert!(!lists.move_before(one, one));
+    /// # Ok(())
+    /// # }
     /// ```
     ///
     /// # Proved
     ///
     /// ```text
     /// ensures which { result ≡ are_two_in (K.data_of cursor) (K.data_of other) self.old.lists }
-    /// ensures moved { self.new ≡ record self.old { lists = if result then moved_ahead (K.data_of cursor) (K.data_of other) self.old.lists else self.old.lists } }
+    /// ensures moved { self.new ≡ record self.old
+    ///     { lists = if result then moved_ahead (K.data_of cursor) (K.data_of other) self.old.lists else self.old.lists } }
     /// ensures in_list { IsTrue result → number_with (K.data_of cursor) self.new.lists ≡ number_with (K.data_of other) self.old.lists }
     /// ensures prev { IsTrue result → key_before None (K.data_of other) (list_with (K.data_of other) self.new.lists) ≡ Some (K.data_of cursor) }
     /// ensures others { IsTrue result → (q : ℕ) → number_with (K.data_of other) self.old.lists ≢ Some q → elements_of q self.new.lists ≡ without (K.data_of cursor) (elements_of q self.old.lists) }
     /// ensures values { (q : KeyOf) → value_under q self.new.lists ≡ value_under q self.old.lists }
     /// ensures as_many { length self.new.lists ≡ length self.old.lists }
     /// ```
+    ///
+    /// Words: [`are_two_in`](crate::words#are_two_in), [`elements_of`](crate::words#elements_of), [`Key`](crate::words#key), [`key_before`](crate::words#key_before), [`list_with`](crate::words#list_with), [`lists`](crate::words#lists), [`moved_ahead`](crate::words#moved_ahead), [`number_with`](crate::words#number_with), [`value_under`](crate::words#value_under), [`without`](crate::words#without-of-slotmap_list-sequence).
     #[inline]
     pub fn move_before(&mut self, cursor: K, other: K) -> bool {
         if !self.has_two(cursor, other) {
@@ -145,26 +180,35 @@ impl<K: Key, T> StableLists<K, T> {
     ///
     /// Constant time. The element keeps its cursor and its value, and the capacity stays.
     ///
-    /// ```ignore
+    /// ```
+    /// # use slotmap_proved::{Global, Key, lists};
+    /// # use slotmap_proved::lists::StableLists;
+    /// # fn main() -> Result<(), Box<dyn std::error::Error>> {
+    /// # let alloc = Global;
     /// let mut lists = StableLists::new(alloc, 2)?;
     /// let one = lists.push_back(0, 1)?;
     /// let two = lists.push_back(1, 2)?;
     /// assert!(lists.move_after(one, two));
     /// assert_eq!((lists.first(0), lists.first(1), lists.last(1)), (None, Some(two), Some(one)));
     /// assert!(!lists.move_after(one, one));
+    /// # Ok(())
+    /// # }
     /// ```
     ///
     /// # Proved
     ///
     /// ```text
     /// ensures which { result ≡ are_two_in (K.data_of cursor) (K.data_of other) self.old.lists }
-    /// ensures moved { self.new ≡ record self.old { lists = if result then moved_behind (K.data_of cursor) (K.data_of other) self.old.lists else self.old.lists } }
+    /// ensures moved { self.new ≡ record self.old
+    ///     { lists = if result then moved_behind (K.data_of cursor) (K.data_of other) self.old.lists else self.old.lists } }
     /// ensures in_list { IsTrue result → number_with (K.data_of cursor) self.new.lists ≡ number_with (K.data_of other) self.old.lists }
     /// ensures next { IsTrue result → key_after (K.data_of other) (list_with (K.data_of other) self.new.lists) ≡ Some (K.data_of cursor) }
     /// ensures others { IsTrue result → (q : ℕ) → number_with (K.data_of other) self.old.lists ≢ Some q → elements_of q self.new.lists ≡ without (K.data_of cursor) (elements_of q self.old.lists) }
     /// ensures values { (q : KeyOf) → value_under q self.new.lists ≡ value_under q self.old.lists }
     /// ensures as_many { length self.new.lists ≡ length self.old.lists }
     /// ```
+    ///
+    /// Words: [`are_two_in`](crate::words#are_two_in), [`elements_of`](crate::words#elements_of), [`Key`](crate::words#key), [`key_after`](crate::words#key_after-of-slotmap_list-sequence), [`list_with`](crate::words#list_with), [`lists`](crate::words#lists), [`moved_behind`](crate::words#moved_behind), [`number_with`](crate::words#number_with), [`value_under`](crate::words#value_under), [`without`](crate::words#without-of-slotmap_list-sequence).
     #[inline]
     pub fn move_after(&mut self, cursor: K, other: K) -> bool {
         if !self.has_two(cursor, other) {

@@ -43,13 +43,19 @@ impl<K: Key, T> StableLists<K, T> {
     ///   retired.
     /// - `Memory`: memory runs out.
     ///
-    /// ```ignore
+    /// ```
+    /// # use slotmap_proved::{Global, Key, lists};
+    /// # use slotmap_proved::lists::StableLists;
+    /// # fn main() -> Result<(), Box<dyn std::error::Error>> {
+    /// # let alloc = Global;
     /// let mut lists = StableLists::new(alloc, 2)?;
     /// lists.reserve(2)?;
     /// let capacity = lists.capacity();
     /// lists.push_back(0, 1)?;
     /// lists.push_back(1, 2)?;
     /// assert_eq!(lists.capacity(), capacity);
+    /// # Ok(())
+    /// # }
     /// ```
     ///
     /// # Proved
@@ -66,6 +72,8 @@ impl<K: Key, T> StableLists<K, T> {
     /// ensures keeps { Keeps self.old.cursors self.new.cursors }
     /// ensures gone { KeepsSpent self.old.cursors self.new.cursors }
     /// ```
+    ///
+    /// Words: [`capacity`](crate::words#capacity-of-slotmap_core-content), [`cursors`](crate::words#cursors-of-slotmap_lists-sequences), [`Keeps`](crate::words#keeps), [`KeepsSpent`](crate::words#keepsspent), [`lists`](crate::words#lists), [`MakesRoom`](crate::words#makesroom), [`next`](crate::words#next), [`RefusesCapacity`](crate::words#refusescapacity), [`room`](crate::words#room-of-slotmap_core-content), [`used`](crate::words#used).
     #[inline(never)]
     pub fn reserve(&mut self, additional: usize) -> Result<(), ReserveError> {
         let capacity = self.values.capacity_for(additional)?;
@@ -78,12 +86,18 @@ impl<K: Key, T> StableLists<K, T> {
     /// Returns how many elements there can be before more room is made, in constant time. It counts
     /// the slots that are retired.
     ///
-    /// ```ignore
+    /// ```
+    /// # use slotmap_proved::{Global, Key, lists};
+    /// # use slotmap_proved::lists::StableLists;
+    /// # fn main() -> Result<(), Box<dyn std::error::Error>> {
+    /// # let alloc = Global;
     /// let mut lists = StableLists::with_capacity(alloc, 2, 8)?;
     /// let capacity = lists.capacity();
     /// assert!(capacity >= 8);
     /// lists.push_back(1, 1)?;
     /// assert_eq!(lists.capacity(), capacity);
+    /// # Ok(())
+    /// # }
     /// ```
     ///
     /// # Proved
@@ -93,6 +107,8 @@ impl<K: Key, T> StableLists<K, T> {
     /// ensures exact { result ≡ used self.now.cursors + self.now.cursors.room }
     /// ensures valid { IsContent true self.now.cursors }
     /// ```
+    ///
+    /// Words: [`bound`](crate::words#bound), [`cursors`](crate::words#cursors-of-slotmap_lists-sequences), [`IsContent`](crate::words#iscontent), [`room`](crate::words#room-of-slotmap_core-content), [`used`](crate::words#used).
     #[inline]
     pub fn capacity(&self) -> usize {
         self.values.capacity()

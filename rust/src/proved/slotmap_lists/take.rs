@@ -13,11 +13,17 @@ impl<K: Key, T> StableLists<K, T> {
     /// never used again. If the cursor is in no list, the call returns `None` and changes nothing. No
     /// room is lost, and the capacity stays. Constant time.
     ///
-    /// ```ignore
+    /// ```
+    /// # use slotmap_proved::{Global, Key, lists};
+    /// # use slotmap_proved::lists::StableLists;
+    /// # fn main() -> Result<(), Box<dyn std::error::Error>> {
+    /// # let alloc = Global;
     /// let mut lists = StableLists::new(alloc, 2)?;
     /// let one = lists.push_back(1, 1)?;
     /// assert_eq!(lists.remove(one), Some(1));
     /// assert_eq!(lists.remove(one), None);
+    /// # Ok(())
+    /// # }
     /// ```
     ///
     /// # Proved
@@ -36,6 +42,8 @@ impl<K: Key, T> StableLists<K, T> {
     /// ensures capacity { memory self.new ≡ memory self.old }
     /// ensures stale { IfNone result (self.new ≡ self.old) }
     /// ```
+    ///
+    /// Words: [`cursors`](crate::words#cursors-of-slotmap_lists-sequences), [`elements_of`](crate::words#elements_of), [`IsSpent`](crate::words#isspent), [`KeepsSpent`](crate::words#keepsspent), [`Key`](crate::words#key), [`Leaves`](crate::words#leaves), [`lists`](crate::words#lists), [`memory`](crate::words#memory-of-slotmap_lists-sequences), [`Removes`](crate::words#removes), [`value_under`](crate::words#value_under), [`without`](crate::words#without-of-slotmap_list-sequence), [`without_key`](crate::words#without_key).
     #[inline]
     pub fn remove(&mut self, cursor: K) -> Option<T> {
         let value = self.values.remove(cursor)?;
@@ -49,12 +57,18 @@ impl<K: Key, T> StableLists<K, T> {
     /// the list is empty or isn't there. The cursor is never used again. No room is lost, and the
     /// capacity stays. Constant time.
     ///
-    /// ```ignore
+    /// ```
+    /// # use slotmap_proved::{Global, Key, lists};
+    /// # use slotmap_proved::lists::StableLists;
+    /// # fn main() -> Result<(), Box<dyn std::error::Error>> {
+    /// # let alloc = Global;
     /// let mut lists = StableLists::new(alloc, 2)?;
     /// let one = lists.push_back(1, 1)?;
     /// lists.push_back(1, 2)?;
     /// assert_eq!(lists.pop_front(0), None);
     /// assert_eq!(lists.pop_front(1), Some((one, 1)));
+    /// # Ok(())
+    /// # }
     /// ```
     ///
     /// # Proved
@@ -73,6 +87,8 @@ impl<K: Key, T> StableLists<K, T> {
     /// ensures capacity { memory self.new ≡ memory self.old }
     /// ensures empty { IfNone result (self.new ≡ self.old) }
     /// ```
+    ///
+    /// Words: [`cursors`](crate::words#cursors-of-slotmap_lists-sequences), [`elements_of`](crate::words#elements_of), [`IsSpent`](crate::words#isspent), [`KeepsSpent`](crate::words#keepsspent), [`Key`](crate::words#key), [`Leaves`](crate::words#leaves), [`lists`](crate::words#lists), [`memory`](crate::words#memory-of-slotmap_lists-sequences), [`Removes`](crate::words#removes), [`TakesFront`](crate::words#takesfront), [`value_under`](crate::words#value_under), [`without_key`](crate::words#without_key).
     #[inline]
     pub fn pop_front(&mut self, list: usize) -> Option<(K, T)> {
         // By what `len` ensures, no cursor stands twice.
@@ -86,12 +102,18 @@ impl<K: Key, T> StableLists<K, T> {
     /// the list is empty or isn't there. The cursor is never used again. No room is lost, and the
     /// capacity stays. Constant time.
     ///
-    /// ```ignore
+    /// ```
+    /// # use slotmap_proved::{Global, Key, lists};
+    /// # use slotmap_proved::lists::StableLists;
+    /// # fn main() -> Result<(), Box<dyn std::error::Error>> {
+    /// # let alloc = Global;
     /// let mut lists = StableLists::new(alloc, 2)?;
     /// lists.push_back(1, 1)?;
     /// let two = lists.push_back(1, 2)?;
     /// assert_eq!(lists.pop_back(0), None);
     /// assert_eq!(lists.pop_back(1), Some((two, 2)));
+    /// # Ok(())
+    /// # }
     /// ```
     ///
     /// # Proved
@@ -110,6 +132,8 @@ impl<K: Key, T> StableLists<K, T> {
     /// ensures capacity { memory self.new ≡ memory self.old }
     /// ensures empty { IfNone result (self.new ≡ self.old) }
     /// ```
+    ///
+    /// Words: [`cursors`](crate::words#cursors-of-slotmap_lists-sequences), [`elements_of`](crate::words#elements_of), [`IsSpent`](crate::words#isspent), [`KeepsSpent`](crate::words#keepsspent), [`Key`](crate::words#key), [`Leaves`](crate::words#leaves), [`lists`](crate::words#lists), [`memory`](crate::words#memory-of-slotmap_lists-sequences), [`Removes`](crate::words#removes), [`TakesBack`](crate::words#takesback), [`value_under`](crate::words#value_under), [`without_key`](crate::words#without_key).
     #[inline]
     pub fn pop_back(&mut self, list: usize) -> Option<(K, T)> {
         // By what `len` ensures, no cursor stands twice.

@@ -157,7 +157,12 @@ fn visit_from<K: Key, N, E>(
 /// It takes time linear in the number of slots of nodes, and in the number of edges. It needs no stack:
 /// the open nodes are in a vector. It fails only if memory runs out.
 ///
-/// ```ignore
+/// ```
+/// # use slotmap_proved::{Global, graph, Key, NodeKey};
+/// # use slotmap_proved::graph::Graph;
+/// # use slotmap_proved::paths::post_order;
+/// # fn main() -> Result<(), Box<dyn std::error::Error>> {
+/// # let alloc = Global;
 /// let mut graph: Graph<NodeKey, &str, u64> = Graph::new(alloc)?;
 /// let a = graph.add_node("a")?;
 /// let b = graph.add_node("b")?;
@@ -165,15 +170,8 @@ fn visit_from<K: Key, N, E>(
 /// graph.add_edge(a, b, 5)?;
 /// graph.add_edge(c, a, 6)?;
 /// assert_eq!(post_order(alloc, &graph)?.as_slice(), [b, a, c].as_slice());
-/// ```
-///
-/// # Proved
-///
-/// ```text
-/// ensures once { IfOk result (λ order. (x : KeyOf) → times x (list_map K.data_of order.items) ≡ (if map.contains_key graph.now.nodes.live x then 1 else 0)) }
-/// ensures count { IfOk result (λ order. length order.items ≡ map.len graph.now.nodes.live) }
-/// ensures in_order { IfOk result (λ order. IsPostOrder graph.now.edges.live (list_map K.data_of order.items)) }
-/// ensures backward { IfOk result (λ order. (HasCycle graph.now.edges.live → ⊥) → GoesBackward graph.now.edges.live (list_map K.data_of order.items)) }
+/// # Ok(())
+/// # }
 /// ```
 #[inline]
 pub fn post_order<K: Key, N, E>(
@@ -192,7 +190,12 @@ pub fn post_order<K: Key, N, E>(
 /// number of these nodes and their outgoing edges, and in the largest index of one of them: the marks
 /// are in a `SecondaryMap`. It fails only if memory runs out.
 ///
-/// ```ignore
+/// ```
+/// # use slotmap_proved::{Global, graph, Key, NodeKey};
+/// # use slotmap_proved::graph::Graph;
+/// # use slotmap_proved::paths::post_order_from;
+/// # fn main() -> Result<(), Box<dyn std::error::Error>> {
+/// # let alloc = Global;
 /// let mut graph: Graph<NodeKey, &str, u64> = Graph::new(alloc)?;
 /// let a = graph.add_node("a")?;
 /// let b = graph.add_node("b")?;
@@ -200,17 +203,8 @@ pub fn post_order<K: Key, N, E>(
 /// graph.add_edge(a, b, 5)?;
 /// graph.add_edge(c, a, 6)?;
 /// assert_eq!(post_order_from(alloc, &graph, a)?.as_slice(), [b, a].as_slice());
-/// ```
-///
-/// # Proved
-///
-/// ```text
-/// ensures once { IfOk result (λ order. (x : KeyOf) → times x (list_map K.data_of order.items) ≤ 1) }
-/// ensures found_is_reachable { IfOk result (λ order. (x : KeyOf) → 0 < times x (list_map K.data_of order.items) → Leads graph.now.edges.live (K.data_of start) x) }
-/// ensures reachable_is_found { IfOk result (λ order. (x : KeyOf) → IsLive graph.now.nodes (K.data_of start) → Leads graph.now.edges.live (K.data_of start) x → 0 < times x (list_map K.data_of order.items)) }
-/// ensures live { IfOk result (λ order. (x : KeyOf) → 0 < times x (list_map K.data_of order.items) → IsLive graph.now.nodes (K.data_of start) × IsLive graph.now.nodes x) }
-/// ensures last { IfOk result (λ order. IsLive graph.now.nodes (K.data_of start) → last_or (list_map K.data_of order.items) None ≡ Some (K.data_of start)) }
-/// ensures in_order { IfOk result (λ order. IsPostOrder graph.now.edges.live (list_map K.data_of order.items)) }
+/// # Ok(())
+/// # }
 /// ```
 #[inline]
 pub fn post_order_from<K: Key, N, E>(

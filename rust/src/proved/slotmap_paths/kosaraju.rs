@@ -112,7 +112,12 @@ fn add_components<K: Key, N, E>(
 /// Its method is that of Kosaraju. It takes time linear in the number of slots of nodes, and in the
 /// number of edges. It fails only if memory runs out.
 ///
-/// ```ignore
+/// ```
+/// # use slotmap_proved::{Global, graph, Key, NodeKey};
+/// # use slotmap_proved::graph::Graph;
+/// # use slotmap_proved::paths::kosaraju_scc;
+/// # fn main() -> Result<(), Box<dyn std::error::Error>> {
+/// # let alloc = Global;
 /// let mut graph: Graph<NodeKey, &str, u64> = Graph::new(alloc)?;
 /// let a = graph.add_node("a")?;
 /// let b = graph.add_node("b")?;
@@ -124,14 +129,8 @@ fn add_components<K: Key, N, E>(
 /// assert_eq!(components.len(), 2);
 /// assert_eq!(components[0].as_slice(), [c].as_slice());
 /// assert_eq!(components[1].as_slice(), [a, b].as_slice());
-/// ```
-///
-/// # Proved
-///
-/// ```text
-/// ensures once { IfOk result (λ components. (x : KeyOf) → times_in x (list_map (λ c. list_map K.data_of c.items) components.items) ≡ (if map.contains_key graph.now.nodes.live x then 1 else 0)) }
-/// ensures each { IfOk result (λ components. All (IsComponent graph.now.edges.live) (list_map (λ c. list_map K.data_of c.items) components.items)) }
-/// ensures onward { IfOk result (λ components. LeadOnward graph.now.edges.live (list_map (λ c. list_map K.data_of c.items) components.items)) }
+/// # Ok(())
+/// # }
 /// ```
 #[inline]
 pub fn kosaraju_scc<K: Key, N, E>(

@@ -21,7 +21,13 @@
 //! - Each node is in one component, once. Two nodes are in the same one if and only if a path leads from
 //!   each of them to the other. No path leads from a component to one before it.
 //!
-//! ```ignore
+//! ```
+//! # use slotmap_proved::{Global, graph, Key, NodeKey, paths};
+//! # use slotmap_proved::fallible::SecondaryMap;
+//! # use slotmap_proved::graph::Graph;
+//! # use slotmap_proved::paths::{path_to, Reached, shortest_paths};
+//! # fn main() -> Result<(), Box<dyn std::error::Error>> {
+//! # let alloc = Global;
 //! let mut graph: Graph<NodeKey, &str, u64> = Graph::new(alloc)?;
 //! let a = graph.add_node("a")?;
 //! let b = graph.add_node("b")?;
@@ -33,6 +39,8 @@
 //! let paths = shortest_paths(alloc, &graph, a, &costs)?;
 //! assert_eq!(paths[b], Reached { distance: 20, by: Some(fast) });
 //! assert_eq!(path_to(alloc, &graph, &paths, b)?.unwrap().as_slice(), [fast].as_slice());
+//! # Ok(())
+//! # }
 //! ```
 
 #[allow(unused_imports)]
@@ -54,9 +62,15 @@ use crate::rt::std::alloc::Global;
 /// How a node was reached: its distance from the start, and the last edge of a path of that length. The
 /// start itself has no edge.
 ///
-/// ```ignore
+/// ```
+/// # use slotmap_proved::{Global, Key};
+/// # use slotmap_proved::paths::Reached;
+/// # fn main() -> Result<(), Box<dyn std::error::Error>> {
+/// # let alloc = Global;
 /// let start = Reached { distance: 0, by: None };
 /// assert!(start.by.is_none());
+/// # Ok(())
+/// # }
 /// ```
 #[derive(Clone, Copy, Debug, Eq, PartialEq)]
 pub struct Reached {
@@ -93,7 +107,13 @@ pub enum PathError {
 /// edge from a node that was found, and time linear in the largest index of such a node: what was found
 /// is in a `SecondaryMap`.
 ///
-/// ```ignore
+/// ```
+/// # use slotmap_proved::{Global, graph, Key, NodeKey, paths};
+/// # use slotmap_proved::fallible::SecondaryMap;
+/// # use slotmap_proved::graph::Graph;
+/// # use slotmap_proved::paths::{PathError, Reached, shortest_paths};
+/// # fn main() -> Result<(), Box<dyn std::error::Error>> {
+/// # let alloc = Global;
 /// let mut graph: Graph<NodeKey, &str, u64> = Graph::new(alloc)?;
 /// let a = graph.add_node("a")?;
 /// let b = graph.add_node("b")?;
@@ -118,25 +138,8 @@ pub enum PathError {
 /// costs.insert(near, u64::MAX)?;
 /// costs.remove(far);
 /// assert_eq!(shortest_paths(alloc, &graph, a, &costs).err(), Some(PathError::TooLong));
-/// ```
-///
-/// # Proved
-///
-/// ```text
-/// // Each distance is the sum of a path, and no path has a lesser sum.
-/// ensures sum { IfOk result (λ paths. (x : KeyOf) (r : ReachedOf) → get paths.pairs x ≡ Some r → IsSum graph.now.edges.live costs.now.pairs (K.data_of from) x r.distance) }
-/// ensures least { IfOk result (λ paths. (x : KeyOf) (sum : ℕ) → IsLive graph.now.nodes (K.data_of from) → IsSum graph.now.edges.live costs.now.pairs (K.data_of from) x sum → (r : ReachedOf) × (get paths.pairs x ≡ Some r) × (r.distance ≤ sum)) }
-/// // The last edge comes from a node that was found, and its cost leads to the distance.
-/// ensures by { IfOk result (λ paths. (x : KeyOf) (r : ReachedOf) → get paths.pairs x ≡ Some r → ComesBy graph.now.edges.live costs.now.pairs (K.data_of from) paths.pairs x r) }
-/// // The last edges lead back to the start, one after the other.
-/// ensures traced { IfOk result (λ paths. AreTraced graph.now.edges.live costs.now.pairs (K.data_of from) paths.pairs) }
-/// // Which nodes are found: where each edge has a cost, those that are reachable.
-/// ensures leads { IfOk result (λ paths. (x : KeyOf) (r : ReachedOf) → get paths.pairs x ≡ Some r → Leads graph.now.edges.live (K.data_of from) x) }
-/// ensures all { IfOk result (λ paths. HaveCosts graph.now.edges.live costs.now.pairs → (x : KeyOf) → IsLive graph.now.nodes (K.data_of from) → Leads graph.now.edges.live (K.data_of from) x → contains_key paths.pairs x ≡ true) }
-/// ensures live { IfOk result (λ paths. IsBeside graph.now.nodes paths.pairs) }
-/// ensures start { IfOk result (λ paths. (x : KeyOf) (r : ReachedOf) → get paths.pairs x ≡ Some r → IsLive graph.now.nodes (K.data_of from)) }
-/// // Why the call failed.
-/// ensures err { IfErr result (RefusesPaths graph.now.edges.live costs.now.pairs (K.data_of from)) }
+/// # Ok(())
+/// # }
 /// ```
 #[inline]
 pub fn shortest_paths<K: Key, N, E>(

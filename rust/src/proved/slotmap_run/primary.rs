@@ -98,13 +98,20 @@ where
 /// Each command costs one call of the map. `Drain` and `Keys` allocate a vector for what they
 /// return.
 ///
-/// ```ignore
+/// ```
+/// # use slotmap_proved::{DefaultKey, Global, Key, OutOfMemory};
+/// # use slotmap_proved::fallible::SlotMap;
+/// # use slotmap_proved::runs::{Command, Reply, run};
+/// # fn main() -> Result<(), Box<dyn std::error::Error>> {
+/// # let alloc = Global;
 /// let mut map: SlotMap<DefaultKey, u64> = SlotMap::new(alloc)?;
-/// let commands = vec![Command::Insert(5), Command::InsertWith, Command::Len]?;
+/// let commands = vec![Command::Insert(5), Command::InsertWith, Command::Len].into();
 /// let replies = run(alloc, &mut map, commands, |value| *value, |_, _| true, |_| Err(()))
 ///     .map_err(|_| OutOfMemory)?;
 /// assert!(matches!(replies.get(1), Some(Reply::Failed(()))));
 /// assert!(matches!(replies.get(2), Some(Reply::Len(1))));
+/// # Ok(())
+/// # }
 /// ```
 ///
 /// # Proved
@@ -113,18 +120,31 @@ where
 /// requires looks { L.IsAlwaysCallable look }
 /// requires keeps { P.IsAlwaysCallable keep }
 /// requires makes { N.IsAlwaysCallable make }
+///
 /// // Replies and content are a run of the machine, and one may start here.
 /// ensures starts { Starts M.REUSES (M.content map.old) }
-/// ensures run { let what = given K.data_of L.Fn look P.Fn keep N.Fn make M.REUSES in IfOk result (λ replies. RunFollows (Step what) (M.content map.old) commands.items replies.items (M.content map.new)) }
+/// ensures run { let what = given K.data_of L.Fn look P.Fn keep N.Fn make M.REUSES in
+///     IfOk result (λ replies. RunFollows (Step what)
+///     (M.content map.old) commands.items replies.items (M.content map.new)) }
+///
 /// // Together with earlier and later runs, whatever closures each is given.
-/// ensures goes_on { let any = any_closures K.data_of M.REUSES in IfOk result (λ replies. RunFollows (Step any) (M.content map.old) commands.items replies.items (M.content map.new)) }
-/// ensures continues { let any = any_closures K.data_of M.REUSES in IfOk result (λ replies. Continues (Step any) (Laws K.data_of any.looks) M.REUSES (M.content map.old) commands.items replies.items (M.content map.new)) }
+/// ensures goes_on { let any = any_closures K.data_of M.REUSES in
+///     IfOk result (λ replies. RunFollows (Step any)
+///     (M.content map.old) commands.items replies.items (M.content map.new)) }
+/// ensures continues { let any = any_closures K.data_of M.REUSES in
+///     IfOk result (λ replies. Continues (Step any) (Laws K.data_of any.looks) M.REUSES
+///     (M.content map.old) commands.items replies.items (M.content map.new)) }
+///
 /// // The laws that the replies therefore keep.
-/// ensures laws { IfOk result (λ replies. Laws K.data_of (FnReturnsAt L.Fn look) (known_from (M.content map.old)) commands.items replies.items) }
+/// ensures laws { IfOk result (λ replies. Laws K.data_of (FnReturnsAt L.Fn look)
+///     (known_from (M.content map.old)) commands.items replies.items) }
+///
 /// // If there is no memory for the replies, nothing is run.
 /// ensures err { IfErr result (λ back. back ≡ commands) }
 /// ensures unchanged { OnErr result (M.content map.new ≡ M.content map.old) }
 /// ```
+///
+/// Words: [`any_closures`](crate::words#any_closures), [`Continues`](crate::words#continues), [`given`](crate::words#given), [`known_from`](crate::words#known_from), [`Laws`](crate::words#laws), [`RunFollows`](crate::words#runfollows), [`Starts`](crate::words#starts), [`Step`](crate::words#step).
 #[inline]
 pub fn run<M, K, V, R, E, L, P, N>(
     alloc: Global,
@@ -178,14 +198,21 @@ where
 /// Each command costs one call of the map. `Drain` and `Keys` allocate a vector for what they
 /// return.
 ///
-/// ```ignore
+/// ```
+/// # use slotmap_proved::{DefaultKey, Global, Key, KeyData, OutOfMemory};
+/// # use slotmap_proved::fallible::SlotMap;
+/// # use slotmap_proved::runs::{Command, Reply, run_new};
+/// # fn main() -> Result<(), Box<dyn std::error::Error>> {
+/// # let alloc = Global;
 /// let first = DefaultKey::from(KeyData::new(1, 1));
-/// let commands = vec![Command::Insert(5), Command::Get(first), Command::Len]?;
+/// let commands = vec![Command::Insert(5), Command::Get(first), Command::Len].into();
 /// let made: (SlotMap<DefaultKey, u64>, _) =
 ///     run_new(alloc, commands, |value| *value, |_, _| true, |_| Err(()))
 ///         .map_err(|_| OutOfMemory)?;
 /// assert!(matches!(made.1.get(0), Some(Reply::Key(key)) if *key == first));
 /// assert!(matches!(made.1.get(1), Some(Reply::Looked(Some(5)))));
+/// # Ok(())
+/// # }
 /// ```
 ///
 /// # Proved
@@ -194,17 +221,31 @@ where
 /// requires looks { L.IsAlwaysCallable look }
 /// requires keeps { P.IsAlwaysCallable keep }
 /// requires makes { N.IsAlwaysCallable make }
+///
 /// // Replies and content are a run of the machine; a short one retires no slot.
-/// ensures run { let what = given K.data_of L.Fn look P.Fn keep N.Fn make M.REUSES in IfOk result (λ made. RunsAnew (Step what) commands.items made.1.items (M.content made.0)) }
-/// ensures none_retired { let what = given K.data_of L.Fn look P.Fn keep N.Fn make M.REUSES in IfOk result (λ made. length commands.items < 2 ^ 32 → RunsAnew (Unretiring (Step what)) commands.items made.1.items (M.content made.0)) }
+/// ensures run { let what = given K.data_of L.Fn look P.Fn keep N.Fn make M.REUSES in
+///     IfOk result (λ made. RunsAnew (Step what)
+///     commands.items made.1.items (M.content made.0)) }
+/// ensures none_retired { let what = given K.data_of L.Fn look P.Fn keep N.Fn make M.REUSES in
+///     IfOk result (λ made. length commands.items < 2 ^ 32 →
+///     RunsAnew (Unretiring (Step what)) commands.items made.1.items (M.content made.0)) }
+///
 /// // Together with later runs, whatever closures each is given.
-/// ensures goes_on { let any = any_closures K.data_of M.REUSES in IfOk result (λ made. RunsAnew (Step any) commands.items made.1.items (M.content made.0)) }
+/// ensures goes_on { let any = any_closures K.data_of M.REUSES in
+///     IfOk result (λ made. RunsAnew (Step any)
+///     commands.items made.1.items (M.content made.0)) }
+///
 /// // The laws that the replies therefore keep.
-/// ensures laws { IfOk result (λ made. Laws K.data_of (FnReturnsAt L.Fn look) (λ k. absent) commands.items made.1.items) }
-/// ensures index_stays_small { IfOk result (λ made. length commands.items < 2 ^ 32 → IndexStaysSmall K.data_of 0 0 0 (map detaching.Plain commands.items) made.1.items) }
+/// ensures laws { IfOk result (λ made. Laws K.data_of (FnReturnsAt L.Fn look)
+///     (λ k. absent) commands.items made.1.items) }
+/// ensures index_stays_small { IfOk result (λ made. length commands.items < 2 ^ 32 →
+///     IndexStaysSmall K.data_of 0 0 0 (map detaching.Plain commands.items) made.1.items) }
+///
 /// // If there is no memory for the replies or the map, nothing is run.
 /// ensures err { IfErr result (λ back. back ≡ commands) }
 /// ```
+///
+/// Words: [`absent`](crate::words#absent), [`any_closures`](crate::words#any_closures), [`given`](crate::words#given), [`IndexStaysSmall`](crate::words#indexstayssmall), [`Laws`](crate::words#laws), [`RunsAnew`](crate::words#runsanew), [`Step`](crate::words#step), [`Unretiring`](crate::words#unretiring).
 #[inline]
 pub fn run_new<M, K, V, R, E, L, P, N>(
     alloc: Global,
@@ -266,14 +307,21 @@ where
 /// The closures, the allocations, the failures and the cost are those of
 /// [`run`].
 ///
-/// ```ignore
+/// ```
+/// # use slotmap_proved::{DefaultKey, Global, Key, OutOfMemory};
+/// # use slotmap_proved::fallible::SlotMap;
+/// # use slotmap_proved::runs::{DetachCommand, Reply, run_detaching};
+/// # fn main() -> Result<(), Box<dyn std::error::Error>> {
+/// # let alloc = Global;
 /// let mut map: SlotMap<DefaultKey, u64> = SlotMap::new(alloc)?;
 /// let key = map.insert(5)?;
-/// let commands = vec![DetachCommand::Detach(key), DetachCommand::Reattach(key, 9)]?;
+/// let commands = vec![DetachCommand::Detach(key), DetachCommand::Reattach(key, 9)].into();
 /// let replies = run_detaching(alloc, &mut map, commands, |value| *value, |_, _| true, |_| Err(()))
 ///     .map_err(|_| OutOfMemory)?;
 /// assert!(matches!(replies.get(0), Some(Reply::Taken(Some(5)))));
 /// assert_eq!(map.get(key).copied(), Some(9));
+/// # Ok(())
+/// # }
 /// ```
 ///
 /// # Proved
@@ -282,18 +330,31 @@ where
 /// requires looks { L.IsAlwaysCallable look }
 /// requires keeps { P.IsAlwaysCallable keep }
 /// requires makes { N.IsAlwaysCallable make }
+///
 /// // Replies and content are a run of the machine, and one may start here.
 /// ensures starts { Starts M.REUSES (M.content map.old) }
-/// ensures run { let what = given K.data_of L.Fn look P.Fn keep N.Fn make M.REUSES in IfOk result (λ replies. RunFollows (DetachStep what) (M.content map.old) commands.items replies.items (M.content map.new)) }
+/// ensures run { let what = given K.data_of L.Fn look P.Fn keep N.Fn make M.REUSES in
+///     IfOk result (λ replies. RunFollows (DetachStep what)
+///     (M.content map.old) commands.items replies.items (M.content map.new)) }
+///
 /// // Together with earlier and later runs, whatever closures each is given.
-/// ensures goes_on { let any = any_closures K.data_of M.REUSES in IfOk result (λ replies. RunFollows (DetachStep any) (M.content map.old) commands.items replies.items (M.content map.new)) }
-/// ensures continues { let any = any_closures K.data_of M.REUSES in IfOk result (λ replies. Continues (DetachStep any) (DetachLaws K.data_of any.looks M.REUSES) M.REUSES (M.content map.old) commands.items replies.items (M.content map.new)) }
+/// ensures goes_on { let any = any_closures K.data_of M.REUSES in
+///     IfOk result (λ replies. RunFollows (DetachStep any)
+///     (M.content map.old) commands.items replies.items (M.content map.new)) }
+/// ensures continues { let any = any_closures K.data_of M.REUSES in
+///     IfOk result (λ replies. Continues (DetachStep any) (DetachLaws K.data_of any.looks M.REUSES) M.REUSES
+///     (M.content map.old) commands.items replies.items (M.content map.new)) }
+///
 /// // The laws that the replies therefore keep.
-/// ensures laws { IfOk result (λ replies. DetachLaws K.data_of (FnReturnsAt L.Fn look) M.REUSES (known_from (M.content map.old)) commands.items replies.items) }
+/// ensures laws { IfOk result (λ replies. DetachLaws K.data_of (FnReturnsAt L.Fn look) M.REUSES
+///     (known_from (M.content map.old)) commands.items replies.items) }
+///
 /// // If there is no memory for the replies, nothing is run.
 /// ensures err { IfErr result (λ back. back ≡ commands) }
 /// ensures unchanged { OnErr result (M.content map.new ≡ M.content map.old) }
 /// ```
+///
+/// Words: [`any_closures`](crate::words#any_closures), [`Continues`](crate::words#continues), [`DetachLaws`](crate::words#detachlaws), [`DetachStep`](crate::words#detachstep), [`given`](crate::words#given), [`known_from`](crate::words#known_from), [`RunFollows`](crate::words#runfollows), [`Starts`](crate::words#starts).
 #[inline]
 pub fn run_detaching<M, K, V, R, E, L, P, N>(
     alloc: Global,
@@ -336,14 +397,21 @@ where
 ///
 /// The closures, the allocations, the failures and the cost are those of `run_new`.
 ///
-/// ```ignore
+/// ```
+/// # use slotmap_proved::{DefaultKey, Global, Key, KeyData, OutOfMemory};
+/// # use slotmap_proved::fallible::SlotMap;
+/// # use slotmap_proved::runs::{Command, DetachCommand, Reply, run_detaching_new};
+/// # fn main() -> Result<(), Box<dyn std::error::Error>> {
+/// # let alloc = Global;
 /// let first = DefaultKey::from(KeyData::new(1, 1));
 /// let commands = vec![DetachCommand::Plain(Command::Insert(5)),
-///     DetachCommand::Detach(first), DetachCommand::Reattach(first, 9)]?;
+///     DetachCommand::Detach(first), DetachCommand::Reattach(first, 9)].into();
 /// let made: (SlotMap<DefaultKey, u64>, _) = run_detaching_new(alloc, commands,
 ///     |value| *value, |_, _| true, |_| Err(())).map_err(|_| OutOfMemory)?;
 /// assert!(matches!(made.1.get(1), Some(Reply::Taken(Some(5)))));
 /// assert_eq!(made.0.get(first).copied(), Some(9));
+/// # Ok(())
+/// # }
 /// ```
 ///
 /// # Proved
@@ -352,18 +420,33 @@ where
 /// requires looks { L.IsAlwaysCallable look }
 /// requires keeps { P.IsAlwaysCallable keep }
 /// requires makes { N.IsAlwaysCallable make }
+///
 /// // Replies and content are a run of the machine; a short one retires no slot.
-/// ensures run { let what = given K.data_of L.Fn look P.Fn keep N.Fn make M.REUSES in IfOk result (λ made. RunsAnew (DetachStep what) commands.items made.1.items (M.content made.0)) }
-/// ensures none_retired { let what = given K.data_of L.Fn look P.Fn keep N.Fn make M.REUSES in IfOk result (λ made. length commands.items < 2 ^ 32 → RunsAnew (Unretiring (DetachStep what)) commands.items made.1.items (M.content made.0)) }
+/// ensures run { let what = given K.data_of L.Fn look P.Fn keep N.Fn make M.REUSES in
+///     IfOk result (λ made. RunsAnew (DetachStep what)
+///     commands.items made.1.items (M.content made.0)) }
+/// ensures none_retired { let what = given K.data_of L.Fn look P.Fn keep N.Fn make M.REUSES in
+///     IfOk result (λ made. length commands.items < 2 ^ 32 →
+///     RunsAnew (Unretiring (DetachStep what)) commands.items made.1.items (M.content made.0)) }
+///
 /// // Together with later runs, whatever closures each is given.
-/// ensures goes_on { let any = any_closures K.data_of M.REUSES in IfOk result (λ made. RunsAnew (DetachStep any) commands.items made.1.items (M.content made.0)) }
+/// ensures goes_on { let any = any_closures K.data_of M.REUSES in
+///     IfOk result (λ made. RunsAnew (DetachStep any)
+///     commands.items made.1.items (M.content made.0)) }
+///
 /// // The laws that the replies therefore keep.
-/// ensures laws { IfOk result (λ made. DetachLaws K.data_of (FnReturnsAt L.Fn look) M.REUSES (λ k. absent) commands.items made.1.items) }
-/// ensures index_stays_small { IfOk result (λ made. length commands.items < 2 ^ 32 → IndexStaysSmall K.data_of 0 0 0 commands.items made.1.items) }
-/// ensures last_freed_first { IfOk result (λ made. LastFreedFirst K.data_of commands.items made.1.items) }
+/// ensures laws { IfOk result (λ made. DetachLaws K.data_of (FnReturnsAt L.Fn look) M.REUSES
+///     (λ k. absent) commands.items made.1.items) }
+/// ensures index_stays_small { IfOk result (λ made. length commands.items < 2 ^ 32 →
+///     IndexStaysSmall K.data_of 0 0 0 commands.items made.1.items) }
+/// ensures last_freed_first { IfOk result (λ made.
+///     LastFreedFirst K.data_of commands.items made.1.items) }
+///
 /// // If there is no memory for the replies or the map, nothing is run.
 /// ensures err { IfErr result (λ back. back ≡ commands) }
 /// ```
+///
+/// Words: [`absent`](crate::words#absent), [`any_closures`](crate::words#any_closures), [`DetachLaws`](crate::words#detachlaws), [`DetachStep`](crate::words#detachstep), [`given`](crate::words#given), [`IndexStaysSmall`](crate::words#indexstayssmall), [`LastFreedFirst`](crate::words#lastfreedfirst), [`RunsAnew`](crate::words#runsanew), [`Unretiring`](crate::words#unretiring).
 #[inline]
 pub fn run_detaching_new<M, K, V, R, E, L, P, N>(
     alloc: Global,

@@ -52,31 +52,51 @@ where
 ///
 /// Each command costs one call of the map.
 ///
-/// ```ignore
+/// ```
+/// # use slotmap_proved::{DefaultKey, Global, Key, KeyData, OutOfMemory};
+/// # use slotmap_proved::fallible::SecondaryMap;
+/// # use slotmap_proved::runs::{run_secondary, SecondaryCommand, SecondaryReply};
+/// # fn main() -> Result<(), Box<dyn std::error::Error>> {
+/// # let alloc = Global;
 /// let key = DefaultKey::from(KeyData::new(1, 1));
 /// let mut map: SecondaryMap<DefaultKey, u64> = SecondaryMap::new(alloc)?;
-/// let commands = vec![SecondaryCommand::Insert(key, 5), SecondaryCommand::Get(key)]?;
+/// let commands = vec![SecondaryCommand::Insert(key, 5), SecondaryCommand::Get(key)].into();
 /// let replies = run_secondary(alloc, &mut map, commands, |value| *value)
 ///     .map_err(|_| OutOfMemory)?;
 /// assert!(matches!(replies.get(0), Some(SecondaryReply::Old(None))));
 /// assert!(matches!(replies.get(1), Some(SecondaryReply::Looked(Some(5)))));
+/// # Ok(())
+/// # }
 /// ```
 ///
 /// # Proved
 ///
 /// ```text
 /// requires looks { L.IsAlwaysCallable look }
+///
 /// // Replies and content are a run of the machine.
-/// ensures run { let what = given_secondary K.data_of L.Fn look in IfOk result (λ replies. Run (SideStep what) (S.pairs map.old) commands.items replies.items (S.pairs map.new)) }
+/// ensures run { let what = given_secondary K.data_of L.Fn look in
+///     IfOk result (λ replies. Run (SideStep what)
+///     (S.pairs map.old) commands.items replies.items (S.pairs map.new)) }
+///
 /// // If `look` always returns what f returns, this is a run of the machine that shows f. Any other run
 /// // from the same pairs that shows f gives the same replies and leaves the same pairs, if no
 /// // allocation fails.
-/// ensures run_seen { let what = given_secondary K.data_of L.Fn look in IfOk result (λ replies. (f : V → R) → Shows what.looks f → Run (SideStep (seen_by K.data_of f)) (S.pairs map.old) commands.items replies.items (S.pairs map.new)) }
-/// ensures agrees { let what = given_secondary K.data_of L.Fn look in IfOk result (λ replies. (f : V → R) → Shows what.looks f → AllByRecursion HadMemory replies.items → EachAgrees (seen_by K.data_of f) (S.pairs map.old) commands.items replies.items (S.pairs map.new)) }
+/// ensures run_seen { let what = given_secondary K.data_of L.Fn look in
+///     IfOk result (λ replies. (f : V → R) → Shows what.looks f →
+///     Run (SideStep (seen_by K.data_of f))
+///     (S.pairs map.old) commands.items replies.items (S.pairs map.new)) }
+/// ensures agrees { let what = given_secondary K.data_of L.Fn look in
+///     IfOk result (λ replies. (f : V → R) → Shows what.looks f →
+///     AllByRecursion HadMemory replies.items → EachAgrees (seen_by K.data_of f)
+///     (S.pairs map.old) commands.items replies.items (S.pairs map.new)) }
+///
 /// // If there is no memory for the replies, nothing is run.
 /// ensures err { IfErr result (λ back. back ≡ commands) }
 /// ensures unchanged { OnErr result (S.pairs map.new ≡ S.pairs map.old) }
 /// ```
+///
+/// Words: [`EachAgrees`](crate::words#eachagrees), [`given_secondary`](crate::words#given_secondary), [`HadMemory`](crate::words#hadmemory), [`Run`](crate::words#run), [`seen_by`](crate::words#seen_by), [`Shows`](crate::words#shows), [`SideStep`](crate::words#sidestep).
 #[inline]
 pub fn run_secondary<S, K, V, R, L>(
     alloc: Global,

@@ -82,13 +82,20 @@ impl<K: Key, T> Scene<K, T> {
     /// A root has none, and neither has a node that doesn't exist. Each key is that of a node that
     /// exists. It is made in constant time, and each step takes constant time.
     ///
-    /// ```ignore
+    /// ```
+    /// # use slotmap_proved::{DefaultKey, Global, Key, scene};
+    /// # use slotmap_proved::scene::Scene;
+    /// # use slotmap_proved::scene::world::{HasTransform, Transform};
+    /// # fn main() -> Result<(), Box<dyn std::error::Error>> {
+    /// # let alloc = Global;
     /// let mut scene: Scene<DefaultKey, &str> = Scene::new(alloc)?;
     /// let car = scene.add_root("car")?;
     /// let wheel = scene.add_child(car, "wheel")?;
     /// let mut above = scene.ancestors(wheel);
     /// assert_eq!(above.next(), Some(car));
     /// assert_eq!(above.next(), None);
+    /// # Ok(())
+    /// # }
     /// ```
     ///
     /// # Proved
@@ -97,6 +104,8 @@ impl<K: Key, T> Scene<K, T> {
     /// ensures order { GoesUp self.now.nodes.live (parent_of self.now.nodes.live (K.data_of node)) result }
     /// ensures only { (k : KeyOf) → 0 < times k result → has_node self.now.nodes.live k }
     /// ```
+    ///
+    /// Words: [`GoesUp`](crate::words#goesup), [`has_node`](crate::words#has_node), [`Key`](crate::words#key), [`live`](crate::words#live), [`nodes`](crate::words#nodes-of-slotmap_scene-node), [`parent_of`](crate::words#parent_of), [`times`](crate::words#times).
     #[inline]
     pub fn ancestors(&self, node: K) -> Ancestors<'_, K, T> {
         Ancestors {
@@ -110,13 +119,20 @@ impl<K: Key, T> Scene<K, T> {
     ///
     /// It is made in constant time. All its steps together read each slot once.
     ///
-    /// ```ignore
+    /// ```
+    /// # use slotmap_proved::{DefaultKey, Global, Key, scene};
+    /// # use slotmap_proved::scene::Scene;
+    /// # use slotmap_proved::scene::world::{HasTransform, Transform};
+    /// # fn main() -> Result<(), Box<dyn std::error::Error>> {
+    /// # let alloc = Global;
     /// let mut scene: Scene<DefaultKey, &str> = Scene::new(alloc)?;
     /// let car = scene.add_root("car")?;
     /// scene.add_child(car, "wheel")?;
     /// let mut roots = scene.roots();
     /// assert_eq!(roots.next(), Some(car));
     /// assert_eq!(roots.next(), None);
+    /// # Ok(())
+    /// # }
     /// ```
     ///
     /// # Proved
@@ -124,6 +140,8 @@ impl<K: Key, T> Scene<K, T> {
     /// ```text
     /// ensures { result ≡ roots_in self.now.nodes.live }
     /// ```
+    ///
+    /// Words: [`live`](crate::words#live), [`nodes`](crate::words#nodes-of-slotmap_scene-node), [`roots_in`](crate::words#roots_in).
     #[inline]
     pub fn roots(&self) -> Roots<'_, K, T> {
         Roots {

@@ -66,7 +66,12 @@ impl<K: Key, T> Scene<K, T> {
     /// It takes time linear in the depth of `key` at most. A walk through all nodes below a node takes time
     /// linear in their number.
     ///
-    /// ```ignore
+    /// ```
+    /// # use slotmap_proved::{DefaultKey, Global, Key, scene};
+    /// # use slotmap_proved::scene::Scene;
+    /// # use slotmap_proved::scene::world::{HasTransform, Transform};
+    /// # fn main() -> Result<(), Box<dyn std::error::Error>> {
+    /// # let alloc = Global;
     /// let mut scene: Scene<DefaultKey, u64> = Scene::new(alloc)?;
     /// let car = scene.add_root(1)?;
     /// let door = scene.add_child(car, 2)?;
@@ -82,19 +87,28 @@ impl<K: Key, T> Scene<K, T> {
     /// assert_eq!((scene[car], scene[door], scene[handle], scene[wheel]), (1, 0, 0, 0));
     /// assert_eq!(scene.next_below(door, door), Some(handle));
     /// assert_eq!(scene.next_below(door, handle), None);
+    /// # Ok(())
+    /// # }
     /// ```
     ///
     /// # Proved
     ///
     /// ```text
     /// ensures first { K.data_of key ≡ K.data_of node → option_map K.data_of result ≡ first_or (all_below self.now.nodes.live (K.data_of node)) None }
-    /// ensures along { 0 < times (K.data_of key) (all_below self.now.nodes.live (K.data_of node)) → option_map K.data_of result ≡ behind (K.data_of key) (all_below self.now.nodes.live (K.data_of node)) }
+    /// ensures along { 0 < times (K.data_of key) (all_below self.now.nodes.live (K.data_of node))
+    ///     → option_map K.data_of result ≡ behind (K.data_of key) (all_below self.now.nodes.live (K.data_of node)) }
+    ///
     /// // It stays below the node, or else in the tree that the key is in.
-    /// ensures within { IsWithin self.now.nodes.live (K.data_of key) (K.data_of node) → IfSome result (λ next. IsWithin self.now.nodes.live (K.data_of next) (K.data_of node) × (K.data_of next ≢ K.data_of node)) }
-    /// ensures elsewhere { (root : KeyOf) → (IsWithin self.now.nodes.live (K.data_of key) (K.data_of node) → ⊥) → IsWithin self.now.nodes.live (K.data_of key) root → parent_of self.now.nodes.live root ≡ None → option_map K.data_of result ≡ behind (K.data_of key) (root ∷ all_below self.now.nodes.live root) }
+    /// ensures within { IsWithin self.now.nodes.live (K.data_of key) (K.data_of node)
+    ///     → IfSome result (λ next. IsWithin self.now.nodes.live (K.data_of next) (K.data_of node) × (K.data_of next ≢ K.data_of node)) }
+    /// ensures elsewhere { (root : KeyOf) → (IsWithin self.now.nodes.live (K.data_of key) (K.data_of node) → ⊥)
+    ///     → IsWithin self.now.nodes.live (K.data_of key) root → parent_of self.now.nodes.live root ≡ None
+    ///     → option_map K.data_of result ≡ behind (K.data_of key) (root ∷ all_below self.now.nodes.live root) }
     /// ensures stale { lacks_node self.now.nodes.live (K.data_of key) → result ≡ None }
     /// ensures live { IfSome result (λ next. has_node self.now.nodes.live (K.data_of next)) }
     /// ```
+    ///
+    /// Words: [`all_below`](crate::words#all_below), [`behind`](crate::words#behind), [`first_or`](crate::words#first_or-of-slotmap_links-lists), [`has_node`](crate::words#has_node), [`IsWithin`](crate::words#iswithin), [`Key`](crate::words#key), [`lacks_node`](crate::words#lacks_node), [`live`](crate::words#live), [`nodes`](crate::words#nodes-of-slotmap_scene-node), [`parent_of`](crate::words#parent_of), [`times`](crate::words#times).
     #[inline]
     pub fn next_below(&self, node: K, key: K) -> Option<K> {
         let _ = &self.alloc;
@@ -118,7 +132,12 @@ impl<K: Key, T> Scene<K, T> {
     /// between the nodes. It is made in constant time. All its steps together take time linear in the
     /// number of keys, and one of them at most in the depth of the trees.
     ///
-    /// ```ignore
+    /// ```
+    /// # use slotmap_proved::{DefaultKey, Global, Key, scene};
+    /// # use slotmap_proved::scene::Scene;
+    /// # use slotmap_proved::scene::world::{HasTransform, Transform};
+    /// # fn main() -> Result<(), Box<dyn std::error::Error>> {
+    /// # let alloc = Global;
     /// let mut scene: Scene<DefaultKey, &str> = Scene::new(alloc)?;
     /// let car = scene.add_root("car")?;
     /// let door = scene.add_child(car, "door")?;
@@ -129,6 +148,8 @@ impl<K: Key, T> Scene<K, T> {
     /// assert_eq!(below.next(), Some(handle));
     /// assert_eq!(below.next(), Some(wheel));
     /// assert_eq!(below.next(), None);
+    /// # Ok(())
+    /// # }
     /// ```
     ///
     /// # Proved
@@ -136,11 +157,14 @@ impl<K: Key, T> Scene<K, T> {
     /// ```text
     /// ensures list { result ≡ all_below self.now.nodes.live (K.data_of node) }
     /// ensures order { GoesDown self.now.nodes.live (children_of self.now.nodes.live (K.data_of node)) result }
+    ///
     /// // Each node below it, and no other, is there once.
     /// ensures all { (k : KeyOf) → IsWithin self.now.nodes.live k (K.data_of node) → k ≢ K.data_of node → 0 < times k result }
     /// ensures only { (k : KeyOf) → 0 < times k result → has_node self.now.nodes.live k × IsWithin self.now.nodes.live k (K.data_of node) × (k ≢ K.data_of node) }
     /// ensures once { (k : KeyOf) → times k result ≤ 1 }
     /// ```
+    ///
+    /// Words: [`all_below`](crate::words#all_below), [`children_of`](crate::words#children_of), [`GoesDown`](crate::words#goesdown), [`has_node`](crate::words#has_node), [`IsWithin`](crate::words#iswithin), [`Key`](crate::words#key), [`live`](crate::words#live), [`nodes`](crate::words#nodes-of-slotmap_scene-node), [`times`](crate::words#times).
     #[inline]
     pub fn keys_below(&self, node: K) -> KeysBelow<'_, K, T> {
         let _ = &self.alloc;
@@ -158,13 +182,20 @@ impl<K: Key, T> Scene<K, T> {
     /// [`Scene::keys_below`] yields. If memory runs out, the call fails; `keys_below` needs none. It takes
     /// time linear in the number of keys that it returns.
     ///
-    /// ```ignore
+    /// ```
+    /// # use slotmap_proved::{DefaultKey, Global, Key, scene};
+    /// # use slotmap_proved::scene::Scene;
+    /// # use slotmap_proved::scene::world::{HasTransform, Transform};
+    /// # fn main() -> Result<(), Box<dyn std::error::Error>> {
+    /// # let alloc = Global;
     /// let mut scene: Scene<DefaultKey, &str> = Scene::new(alloc)?;
     /// let car = scene.add_root("car")?;
     /// let door = scene.add_child(car, "door")?;
     /// let wheel = scene.add_child(car, "wheel")?;
     /// let handle = scene.add_child(door, "handle")?;
     /// assert_eq!(scene.descendants(car)?.as_slice(), [door, handle, wheel].as_slice());
+    /// # Ok(())
+    /// # }
     /// ```
     ///
     /// # Proved
@@ -173,11 +204,15 @@ impl<K: Key, T> Scene<K, T> {
     /// ensures list { IfOk result (λ keys. list_map K.data_of keys.items ≡ all_below self.now.nodes.live (K.data_of node)) }
     /// ensures count { IfOk result (λ keys. length keys.items ≡ length (all_below self.now.nodes.live (K.data_of node))) }
     /// ensures order { IfOk result (λ keys. GoesDown self.now.nodes.live (children_of self.now.nodes.live (K.data_of node)) (list_map K.data_of keys.items)) }
+    ///
     /// // Each node below it, and no other, is there once.
     /// ensures all { IfOk result (λ keys. (k : KeyOf) → IsWithin self.now.nodes.live k (K.data_of node) → k ≢ K.data_of node → 0 < times k (list_map K.data_of keys.items)) }
-    /// ensures only { IfOk result (λ keys. All (λ key. has_node self.now.nodes.live (K.data_of key) × IsWithin self.now.nodes.live (K.data_of key) (K.data_of node) × (K.data_of key ≢ K.data_of node)) keys.items) }
+    /// ensures only { IfOk result (λ keys. All (λ key. has_node self.now.nodes.live (K.data_of key)
+    ///     × IsWithin self.now.nodes.live (K.data_of key) (K.data_of node) × (K.data_of key ≢ K.data_of node)) keys.items) }
     /// ensures once { IfOk result (λ keys. (k : KeyOf) → times k (list_map K.data_of keys.items) ≤ 1) }
     /// ```
+    ///
+    /// Words: [`all_below`](crate::words#all_below), [`children_of`](crate::words#children_of), [`GoesDown`](crate::words#goesdown), [`has_node`](crate::words#has_node), [`IsWithin`](crate::words#iswithin), [`Key`](crate::words#key), [`live`](crate::words#live), [`nodes`](crate::words#nodes-of-slotmap_scene-node), [`times`](crate::words#times).
     #[inline]
     pub fn descendants(&self, node: K) -> Result<Vec<K>, AllocError> {
         let mut below = Vec::new(self.alloc);

@@ -27,7 +27,12 @@ pub struct ChildKeys<'a, K, T> {
 impl<'a, K, T> ChildKeys<'a, K, T> {
     /// Returns how many keys are left, in constant time.
     ///
-    /// ```ignore
+    /// ```
+    /// # use slotmap_proved::{DefaultKey, Global, Key, scene};
+    /// # use slotmap_proved::scene::Scene;
+    /// # use slotmap_proved::scene::world::{HasTransform, Transform};
+    /// # fn main() -> Result<(), Box<dyn std::error::Error>> {
+    /// # let alloc = Global;
     /// let mut scene: Scene<DefaultKey, &str> = Scene::new(alloc)?;
     /// let car = scene.add_root("car")?;
     /// scene.add_child(car, "wheel")?;
@@ -35,6 +40,8 @@ impl<'a, K, T> ChildKeys<'a, K, T> {
     /// assert_eq!(children.len(), 1);
     /// children.next();
     /// assert_eq!(children.len(), 0);
+    /// # Ok(())
+    /// # }
     /// ```
     ///
     /// # Proved

@@ -11,7 +11,12 @@ use crate::proved::slotmap_bounded::inner;
 impl<K: Key, T> Scene<K, T> {
     /// Returns how many nodes are above a node, or `None` if it doesn't exist.
     ///
-    /// ```ignore
+    /// ```
+    /// # use slotmap_proved::{DefaultKey, Global, Key, scene};
+    /// # use slotmap_proved::scene::Scene;
+    /// # use slotmap_proved::scene::world::{HasTransform, Transform};
+    /// # fn main() -> Result<(), Box<dyn std::error::Error>> {
+    /// # let alloc = Global;
     /// let mut scene: Scene<DefaultKey, &str> = Scene::new(alloc)?;
     /// let car = scene.add_root("car")?;
     /// let wheel = scene.add_child(car, "wheel")?;
@@ -19,6 +24,8 @@ impl<K: Key, T> Scene<K, T> {
     /// assert_eq!(scene.depth(wheel), Some(1));
     /// scene.remove(wheel);
     /// assert_eq!(scene.depth(wheel), None);
+    /// # Ok(())
+    /// # }
     /// ```
     ///
     /// # Proved
@@ -27,6 +34,8 @@ impl<K: Key, T> Scene<K, T> {
     /// ensures some { IfSome result (λ steps. ClimbsTo self.now.nodes.live steps (K.data_of node)) }
     /// ensures none { IfNone result (lacks_node self.now.nodes.live (K.data_of node)) }
     /// ```
+    ///
+    /// Words: [`ClimbsTo`](crate::words#climbsto), [`lacks_node`](crate::words#lacks_node), [`live`](crate::words#live), [`nodes`](crate::words#nodes-of-slotmap_scene-node).
     #[inline]
     pub fn depth(&self, node: K) -> Option<usize> {
         let mut at = inner(node);
@@ -44,12 +53,19 @@ impl<K: Key, T> Scene<K, T> {
 
     /// Returns whether a node exists, and is the other node or below it.
     ///
-    /// ```ignore
+    /// ```
+    /// # use slotmap_proved::{DefaultKey, Global, Key, scene};
+    /// # use slotmap_proved::scene::Scene;
+    /// # use slotmap_proved::scene::world::{HasTransform, Transform};
+    /// # fn main() -> Result<(), Box<dyn std::error::Error>> {
+    /// # let alloc = Global;
     /// let mut scene: Scene<DefaultKey, &str> = Scene::new(alloc)?;
     /// let car = scene.add_root("car")?;
     /// let wheel = scene.add_child(car, "wheel")?;
     /// assert!(scene.is_within(wheel, car));
     /// assert!(!scene.is_within(car, wheel));
+    /// # Ok(())
+    /// # }
     /// ```
     ///
     /// # Proved
@@ -57,6 +73,8 @@ impl<K: Key, T> Scene<K, T> {
     /// ```text
     /// ensures { IsTrue result ↔ (has_node self.now.nodes.live (K.data_of node) × IsWithin self.now.nodes.live (K.data_of node) (K.data_of other)) }
     /// ```
+    ///
+    /// Words: [`has_node`](crate::words#has_node), [`IsWithin`](crate::words#iswithin), [`live`](crate::words#live), [`nodes`](crate::words#nodes-of-slotmap_scene-node).
     #[inline]
     pub fn is_within(&self, node: K, other: K) -> bool {
         let mut at = inner(node);

@@ -28,12 +28,19 @@ impl<K: Key, T: Clone> Scene<K, T> {
     /// memory runs out, or the clone of a value fails, the call fails, and what was copied is dropped. It
     /// takes time linear in the capacity.
     ///
-    /// ```ignore
+    /// ```
+    /// # use slotmap_proved::{DefaultKey, Global, Key, scene};
+    /// # use slotmap_proved::scene::Scene;
+    /// # use slotmap_proved::scene::world::{HasTransform, Transform};
+    /// # fn main() -> Result<(), Box<dyn std::error::Error>> {
+    /// # let alloc = Global;
     /// let mut scene: Scene<DefaultKey, u64> = Scene::new(alloc)?;
     /// let car = scene.add_root(1)?;
     /// let copy = scene.clone()?;
     /// scene.remove(car);
     /// assert_eq!(copy.get(car), Some(&1));
+    /// # Ok(())
+    /// # }
     /// ```
     ///
     /// # Proved
@@ -44,6 +51,8 @@ impl<K: Key, T: Clone> Scene<K, T> {
     /// ensures capacity { IfOk result (λ copy. bound copy.nodes ≡ bound self.now.nodes) }
     /// ensures room { IfOk result (λ copy. copy.nodes.room ≡ self.now.nodes.room) }
     /// ```
+    ///
+    /// Words: [`bound`](crate::words#bound), [`ClonesEqual`](crate::words#clonesequal), [`IsCloneBy`](crate::words#iscloneby), [`IsCopy`](crate::words#iscopy), [`IsNodeClone`](crate::words#isnodeclone), [`nodes`](crate::words#nodes-of-slotmap_scene-node), [`room`](crate::words#room-of-slotmap_core-content).
     #[inline]
     pub fn clone(&self) -> Result<Self, AllocError> {
         Ok(Scene {

@@ -31,7 +31,12 @@ impl<K: Key, T> Scene<K, T> {
     /// or room was reserved, it fails for no other reason, and the capacity stays. If the call fails,
     /// the error holds the value, and the scene has the same trees.
     ///
-    /// ```ignore
+    /// ```
+    /// # use slotmap_proved::{DefaultKey, Global, Key, scene};
+    /// # use slotmap_proved::scene::Scene;
+    /// # use slotmap_proved::scene::world::{HasTransform, Transform};
+    /// # fn main() -> Result<(), Box<dyn std::error::Error>> {
+    /// # let alloc = Global;
     /// let mut scene: Scene<DefaultKey, &str> = Scene::new(alloc)?;
     /// let car = scene.add_root("car")?;
     /// let door = scene.add_child(car, "door")?;
@@ -39,18 +44,23 @@ impl<K: Key, T> Scene<K, T> {
     /// let mut children = scene.children(car);
     /// assert_eq!(children.next(), Some(wheel));
     /// assert_eq!(children.next(), Some(door));
+    /// # Ok(())
+    /// # }
     /// ```
     ///
     /// # Proved
     ///
     /// ```text
     /// // The parent of the sibling has one more child, under a new key.
-    /// ensures adds { IfOk result (λ key. Inserts (record self.old.nodes { live = with_sibling right_before self.old.nodes.live (K.data_of sibling) (K.data_of key) }) (K.data_of key) (child (parent_of self.old.nodes.live (K.data_of sibling)) value) self.new.nodes) }
-    /// ensures gains { IfOk result (λ key. (p : KeyOf) → parent_of self.old.nodes.live (K.data_of sibling) ≡ Some p → IsNewChild self.old.nodes.live self.new.nodes.live (K.data_of key) p value (placed right_before (K.data_of sibling) (K.data_of key) (children_of self.old.nodes.live p))) }
+    /// ensures adds { IfOk result (λ key. Inserts (record self.old.nodes { live = with_sibling right_before self.old.nodes.live (K.data_of sibling) (K.data_of key) })
+    ///     (K.data_of key) (child (parent_of self.old.nodes.live (K.data_of sibling)) value) self.new.nodes) }
+    /// ensures gains { IfOk result (λ key. (p : KeyOf) → parent_of self.old.nodes.live (K.data_of sibling) ≡ Some p
+    ///     → IsNewChild self.old.nodes.live self.new.nodes.live (K.data_of key) p value (placed right_before (K.data_of sibling) (K.data_of key) (children_of self.old.nodes.live p))) }
     /// ensures fresh { IfOk result (λ key. lacks_node self.old.nodes.live (K.data_of key)) }
     /// ensures unspent { IfOk result (λ key. IsSpent self.old.nodes (K.data_of key) → ⊥) }
     /// ensures stale { KeepsSpent self.old.nodes self.new.nodes }
     /// ensures parent { OnOk result (IsSome (parent_of self.old.nodes.live (K.data_of sibling))) }
+    ///
     /// // Why the call failed, and what that leaves.
     /// ensures err { IfErr result (RefusesSibling self.old.nodes (K.data_of sibling) value) }
     /// ensures reuses { IsSome (parent_of self.old.nodes.live (K.data_of sibling)) → HasVacant self.old.nodes → IsOk result }
@@ -59,6 +69,8 @@ impl<K: Key, T> Scene<K, T> {
     /// ensures in_place { 0 < self.old.nodes.room → memory self.new ≡ memory self.old }
     /// ensures unchanged { OnErr result (Keeps self.old.nodes self.new.nodes) }
     /// ```
+    ///
+    /// Words: [`capacity`](crate::words#capacity-of-slotmap_core-content), [`child`](crate::words#child), [`children_of`](crate::words#children_of), [`HasVacant`](crate::words#hasvacant), [`Inserts`](crate::words#inserts), [`IsNewChild`](crate::words#isnewchild), [`IsSpent`](crate::words#isspent), [`Keeps`](crate::words#keeps), [`KeepsSpent`](crate::words#keepsspent), [`Key`](crate::words#key), [`lacks_node`](crate::words#lacks_node), [`live`](crate::words#live), [`memory`](crate::words#memory-of-slotmap_scene-node), [`nodes`](crate::words#nodes-of-slotmap_scene-node), [`parent_of`](crate::words#parent_of), [`placed`](crate::words#placed), [`RefusesSibling`](crate::words#refusessibling), [`right_before`](crate::words#right_before), [`room`](crate::words#room-of-slotmap_core-content), [`with_sibling`](crate::words#with_sibling).
     #[inline]
     pub fn insert_before(&mut self, sibling: K, value: T) -> Result<K, AddError<T>> {
         Ok(outer(self.insert(Side::Before, inner(sibling), value)?))
@@ -71,7 +83,12 @@ impl<K: Key, T> Scene<K, T> {
     /// or room was reserved, it fails for no other reason, and the capacity stays. If the call fails,
     /// the error holds the value, and the scene has the same trees.
     ///
-    /// ```ignore
+    /// ```
+    /// # use slotmap_proved::{DefaultKey, Global, Key, scene};
+    /// # use slotmap_proved::scene::Scene;
+    /// # use slotmap_proved::scene::world::{HasTransform, Transform};
+    /// # fn main() -> Result<(), Box<dyn std::error::Error>> {
+    /// # let alloc = Global;
     /// let mut scene: Scene<DefaultKey, &str> = Scene::new(alloc)?;
     /// let car = scene.add_root("car")?;
     /// let wheel = scene.add_child(car, "wheel")?;
@@ -79,18 +96,23 @@ impl<K: Key, T> Scene<K, T> {
     /// let mut children = scene.children(car);
     /// assert_eq!(children.next(), Some(wheel));
     /// assert_eq!(children.next(), Some(door));
+    /// # Ok(())
+    /// # }
     /// ```
     ///
     /// # Proved
     ///
     /// ```text
     /// // The parent of the sibling has one more child, under a new key.
-    /// ensures adds { IfOk result (λ key. Inserts (record self.old.nodes { live = with_sibling right_behind self.old.nodes.live (K.data_of sibling) (K.data_of key) }) (K.data_of key) (child (parent_of self.old.nodes.live (K.data_of sibling)) value) self.new.nodes) }
-    /// ensures gains { IfOk result (λ key. (p : KeyOf) → parent_of self.old.nodes.live (K.data_of sibling) ≡ Some p → IsNewChild self.old.nodes.live self.new.nodes.live (K.data_of key) p value (placed right_behind (K.data_of sibling) (K.data_of key) (children_of self.old.nodes.live p))) }
+    /// ensures adds { IfOk result (λ key. Inserts (record self.old.nodes { live = with_sibling right_behind self.old.nodes.live (K.data_of sibling) (K.data_of key) })
+    ///     (K.data_of key) (child (parent_of self.old.nodes.live (K.data_of sibling)) value) self.new.nodes) }
+    /// ensures gains { IfOk result (λ key. (p : KeyOf) → parent_of self.old.nodes.live (K.data_of sibling) ≡ Some p
+    ///     → IsNewChild self.old.nodes.live self.new.nodes.live (K.data_of key) p value (placed right_behind (K.data_of sibling) (K.data_of key) (children_of self.old.nodes.live p))) }
     /// ensures fresh { IfOk result (λ key. lacks_node self.old.nodes.live (K.data_of key)) }
     /// ensures unspent { IfOk result (λ key. IsSpent self.old.nodes (K.data_of key) → ⊥) }
     /// ensures stale { KeepsSpent self.old.nodes self.new.nodes }
     /// ensures parent { OnOk result (IsSome (parent_of self.old.nodes.live (K.data_of sibling))) }
+    ///
     /// // Why the call failed, and what that leaves.
     /// ensures err { IfErr result (RefusesSibling self.old.nodes (K.data_of sibling) value) }
     /// ensures reuses { IsSome (parent_of self.old.nodes.live (K.data_of sibling)) → HasVacant self.old.nodes → IsOk result }
@@ -99,6 +121,8 @@ impl<K: Key, T> Scene<K, T> {
     /// ensures in_place { 0 < self.old.nodes.room → memory self.new ≡ memory self.old }
     /// ensures unchanged { OnErr result (Keeps self.old.nodes self.new.nodes) }
     /// ```
+    ///
+    /// Words: [`capacity`](crate::words#capacity-of-slotmap_core-content), [`child`](crate::words#child), [`children_of`](crate::words#children_of), [`HasVacant`](crate::words#hasvacant), [`Inserts`](crate::words#inserts), [`IsNewChild`](crate::words#isnewchild), [`IsSpent`](crate::words#isspent), [`Keeps`](crate::words#keeps), [`KeepsSpent`](crate::words#keepsspent), [`Key`](crate::words#key), [`lacks_node`](crate::words#lacks_node), [`live`](crate::words#live), [`memory`](crate::words#memory-of-slotmap_scene-node), [`nodes`](crate::words#nodes-of-slotmap_scene-node), [`parent_of`](crate::words#parent_of), [`placed`](crate::words#placed), [`RefusesSibling`](crate::words#refusessibling), [`right_behind`](crate::words#right_behind), [`room`](crate::words#room-of-slotmap_core-content), [`with_sibling`](crate::words#with_sibling).
     #[inline]
     pub fn insert_after(&mut self, sibling: K, value: T) -> Result<K, AddError<T>> {
         Ok(outer(self.insert(Side::After, inner(sibling), value)?))

@@ -21,10 +21,17 @@ pub struct Iter<'a, K, T> {
 impl<'a, K, T> Iter<'a, K, T> {
     /// Returns how many nodes are left, in constant time.
     ///
-    /// ```ignore
+    /// ```
+    /// # use slotmap_proved::{DefaultKey, Global, Key, scene};
+    /// # use slotmap_proved::scene::Scene;
+    /// # use slotmap_proved::scene::world::{HasTransform, Transform};
+    /// # fn main() -> Result<(), Box<dyn std::error::Error>> {
+    /// # let alloc = Global;
     /// let mut scene: Scene<DefaultKey, &str> = Scene::new(alloc)?;
     /// scene.add_root("car")?;
     /// assert_eq!(scene.iter().len(), 1);
+    /// # Ok(())
+    /// # }
     /// ```
     ///
     /// # Proved
@@ -150,7 +157,12 @@ impl<K: Key, T> Scene<K, T> {
     ///
     /// It is made in constant time. All its steps together read each slot once.
     ///
-    /// ```ignore
+    /// ```
+    /// # use slotmap_proved::{DefaultKey, Global, Key, scene};
+    /// # use slotmap_proved::scene::Scene;
+    /// # use slotmap_proved::scene::world::{HasTransform, Transform};
+    /// # fn main() -> Result<(), Box<dyn std::error::Error>> {
+    /// # let alloc = Global;
     /// let mut scene: Scene<DefaultKey, &str> = Scene::new(alloc)?;
     /// let car = scene.add_root("car")?;
     /// let wheel = scene.add_child(car, "wheel")?;
@@ -158,6 +170,8 @@ impl<K: Key, T> Scene<K, T> {
     /// assert_eq!(nodes.next(), Some((car, &"car")));
     /// assert_eq!(nodes.next(), Some((wheel, &"wheel")));
     /// assert!(nodes.next().is_none());
+    /// # Ok(())
+    /// # }
     /// ```
     ///
     /// # Proved
@@ -165,6 +179,8 @@ impl<K: Key, T> Scene<K, T> {
     /// ```text
     /// ensures { result ≡ list_map key_and_value (map.entries self.now.nodes.live) }
     /// ```
+    ///
+    /// Words: [`key_and_value`](crate::words#key_and_value), [`live`](crate::words#live), [`nodes`](crate::words#nodes-of-slotmap_scene-node).
     #[inline]
     pub fn iter(&self) -> Iter<'_, K, T> {
         Iter {
@@ -177,13 +193,20 @@ impl<K: Key, T> Scene<K, T> {
     ///
     /// It is made in constant time. All its steps together read each slot once.
     ///
-    /// ```ignore
+    /// ```
+    /// # use slotmap_proved::{DefaultKey, Global, Key, scene};
+    /// # use slotmap_proved::scene::Scene;
+    /// # use slotmap_proved::scene::world::{HasTransform, Transform};
+    /// # fn main() -> Result<(), Box<dyn std::error::Error>> {
+    /// # let alloc = Global;
     /// let mut scene: Scene<DefaultKey, &str> = Scene::new(alloc)?;
     /// let car = scene.add_root("car")?;
     /// let wheel = scene.add_child(car, "wheel")?;
     /// let mut keys = scene.keys();
     /// assert_eq!(keys.next(), Some(car));
     /// assert_eq!(keys.next(), Some(wheel));
+    /// # Ok(())
+    /// # }
     /// ```
     ///
     /// # Proved
@@ -191,6 +214,8 @@ impl<K: Key, T> Scene<K, T> {
     /// ```text
     /// ensures { result ≡ map.keys self.now.nodes.live }
     /// ```
+    ///
+    /// Words: [`live`](crate::words#live), [`nodes`](crate::words#nodes-of-slotmap_scene-node).
     #[inline]
     pub fn keys(&self) -> Keys<'_, K, T> {
         Keys { nodes: self.iter() }
@@ -201,13 +226,20 @@ impl<K: Key, T> Scene<K, T> {
     ///
     /// It is made in constant time. All its steps together read each slot once.
     ///
-    /// ```ignore
+    /// ```
+    /// # use slotmap_proved::{DefaultKey, Global, Key, scene};
+    /// # use slotmap_proved::scene::Scene;
+    /// # use slotmap_proved::scene::world::{HasTransform, Transform};
+    /// # fn main() -> Result<(), Box<dyn std::error::Error>> {
+    /// # let alloc = Global;
     /// let mut scene: Scene<DefaultKey, &str> = Scene::new(alloc)?;
     /// let car = scene.add_root("car")?;
     /// scene.add_child(car, "wheel")?;
     /// let mut values = scene.values();
     /// assert_eq!(values.next(), Some(&"car"));
     /// assert_eq!(values.next(), Some(&"wheel"));
+    /// # Ok(())
+    /// # }
     /// ```
     ///
     /// # Proved
@@ -215,6 +247,8 @@ impl<K: Key, T> Scene<K, T> {
     /// ```text
     /// ensures { result ≡ list_map (λ e. e.1.value) (map.entries self.now.nodes.live) }
     /// ```
+    ///
+    /// Words: [`live`](crate::words#live), [`nodes`](crate::words#nodes-of-slotmap_scene-node), [`value`](crate::words#value-of-slotmap_scene-node).
     #[inline]
     pub fn values(&self) -> Values<'_, K, T> {
         Values { nodes: self.iter() }

@@ -44,20 +44,29 @@ impl<K: Key, T: HasTransform> Scene<K, T> {
     /// round in another way. If memory runs out, the call fails. It takes time linear in the number of
     /// slots.
     ///
-    /// ```ignore
+    /// ```
+    /// # use slotmap_proved::{DefaultKey, Global, Key};
+    /// # use slotmap_proved::scene::Scene;
+    /// # use slotmap_proved::scene::world::{HasTransform, Offset, Transform};
+    /// # fn main() -> Result<(), Box<dyn std::error::Error>> {
+    /// # let alloc = Global;
     /// let mut arm: Scene<DefaultKey, Offset> = Scene::new(alloc)?;
     /// let elbow = arm.add_root(Offset { x: 5, y: 0 })?;
     /// let hand = arm.add_child(elbow, Offset { x: 3, y: -4 })?;
     /// let all = arm.world_transforms()?;
     /// assert_eq!(all[0], (elbow, Offset { x: 5, y: 0 }));
     /// assert_eq!(all[1], (hand, Offset { x: 8, y: -4 }));
+    /// # Ok(())
+    /// # }
     /// ```
     ///
     /// # Proved
     ///
     /// ```text
     /// ensures each { IfOk result (λ all. AreWorlds K.data_of T.Transform.under T.transform_of self.now.nodes.live all.items) }
-    /// ensures composed { Joins T.Transform.under → IfOk result (λ all. All (λ e. IsComposed T.Transform.under T.transform_of self.now.nodes.live (K.data_of e.0) e.1) all.items) }
+    /// ensures composed { Joins T.Transform.under
+    ///     → IfOk result (λ all. All (λ e. IsComposed T.Transform.under T.transform_of self.now.nodes.live (K.data_of e.0) e.1) all.items) }
+    ///
     /// // The order; and each node is there once, and no other key.
     /// ensures order { IfOk result (λ all. GoesByLevel self.now.nodes.live (keys_of_pairs K.data_of all.items)) }
     /// ensures all { IfOk result (λ all. (k : KeyOf) → has_node self.now.nodes.live k → 0 < times k (keys_of_pairs K.data_of all.items)) }
@@ -65,6 +74,8 @@ impl<K: Key, T: HasTransform> Scene<K, T> {
     /// ensures once { IfOk result (λ all. (k : KeyOf) → times k (keys_of_pairs K.data_of all.items) ≤ 1) }
     /// ensures count { IfOk result (λ all. length all.items ≡ map.len self.now.nodes.live) }
     /// ```
+    ///
+    /// Words: [`AreWorlds`](crate::words#areworlds), [`GoesByLevel`](crate::words#goesbylevel), [`has_node`](crate::words#has_node), [`IsComposed`](crate::words#iscomposed), [`Joins`](crate::words#joins), [`Key`](crate::words#key), [`keys_of_pairs`](crate::words#keys_of_pairs), [`live`](crate::words#live), [`nodes`](crate::words#nodes-of-slotmap_scene-node), [`times`](crate::words#times).
     #[inline]
     pub fn world_transforms(&self) -> Result<Vec<(K, T::Transform)>, AllocError> {
         let mut all = Vec::with_capacity(self.alloc, self.len())?;

@@ -43,7 +43,12 @@
 //! - [`Scene::world_transforms`] takes time linear in the number of slots. So do all steps of
 //!   [`Scene::iter`], [`Scene::keys`], [`Scene::values`] or [`Scene::roots`] together.
 //!
-//! ```ignore
+//! ```
+//! # use slotmap_proved::{DefaultKey, Global, Key, scene};
+//! # use slotmap_proved::scene::Scene;
+//! # use slotmap_proved::scene::world::{HasTransform, Transform};
+//! # fn main() -> Result<(), Box<dyn std::error::Error>> {
+//! # let alloc = Global;
 //! let mut scene: Scene<DefaultKey, &str> = Scene::new(alloc)?;
 //! let car = scene.add_root("car")?;
 //! let wheel = scene.add_child(car, "wheel")?;
@@ -55,6 +60,8 @@
 //! assert!(scene.reparent(car, wheel).is_err());
 //! assert_eq!(scene.remove(car), Some("car"));
 //! assert_eq!(scene.len(), 0);
+//! # Ok(())
+//! # }
 //! ```
 
 #[allow(unused_imports)]
@@ -151,9 +158,16 @@ impl<T> Scene<DefaultKey, T> {
     ///
     /// It fails only if memory runs out.
     ///
-    /// ```ignore
+    /// ```
+    /// # use slotmap_proved::{DefaultKey, Global, Key, scene};
+    /// # use slotmap_proved::scene::Scene;
+    /// # use slotmap_proved::scene::world::{HasTransform, Transform};
+    /// # fn main() -> Result<(), Box<dyn std::error::Error>> {
+    /// # let alloc = Global;
     /// let scene: Scene<DefaultKey, &str> = Scene::new(alloc)?;
     /// assert!(scene.is_empty());
+    /// # Ok(())
+    /// # }
     /// ```
     ///
     /// # Proved
@@ -162,6 +176,8 @@ impl<T> Scene<DefaultKey, T> {
     /// ensures empty { IfOk result (λ scene. IsNew scene.nodes) }
     /// ensures err { IfErr result (λ error. error ≡ ReserveError.Memory) }
     /// ```
+    ///
+    /// Words: [`IsNew`](crate::words#isnew), [`nodes`](crate::words#nodes-of-slotmap_scene-node).
     #[inline]
     pub fn new(alloc: Global) -> Result<Self, ReserveError> {
         Scene::with_key(alloc)
@@ -172,9 +188,16 @@ impl<T> Scene<DefaultKey, T> {
     /// It fails with `TooGreat` if `capacity` is over 4294967294, and with `Memory` if memory runs out.
     /// It takes time linear in `capacity`.
     ///
-    /// ```ignore
+    /// ```
+    /// # use slotmap_proved::{DefaultKey, Global, Key, scene};
+    /// # use slotmap_proved::scene::Scene;
+    /// # use slotmap_proved::scene::world::{HasTransform, Transform};
+    /// # fn main() -> Result<(), Box<dyn std::error::Error>> {
+    /// # let alloc = Global;
     /// let scene: Scene<DefaultKey, &str> = Scene::with_capacity(alloc, 2)?;
     /// assert!(scene.capacity() >= 2);
+    /// # Ok(())
+    /// # }
     /// ```
     ///
     /// # Proved
@@ -184,6 +207,8 @@ impl<T> Scene<DefaultKey, T> {
     /// ensures room { IfOk result (λ scene. capacity ≤ scene.nodes.room) }
     /// ensures err { IfErr result (RefusesCapacity capacity) }
     /// ```
+    ///
+    /// Words: [`IsNew`](crate::words#isnew), [`nodes`](crate::words#nodes-of-slotmap_scene-node), [`RefusesCapacity`](crate::words#refusescapacity), [`room`](crate::words#room-of-slotmap_core-content).
     #[inline]
     pub fn with_capacity(alloc: Global, capacity: usize) -> Result<Self, ReserveError> {
         Scene::with_capacity_and_key(alloc, capacity)
@@ -195,9 +220,16 @@ impl<K: Key, T> Scene<K, T> {
     ///
     /// It fails only if memory runs out.
     ///
-    /// ```ignore
+    /// ```
+    /// # use slotmap_proved::{Global, Key, NodeKey, scene};
+    /// # use slotmap_proved::scene::Scene;
+    /// # use slotmap_proved::scene::world::{HasTransform, Transform};
+    /// # fn main() -> Result<(), Box<dyn std::error::Error>> {
+    /// # let alloc = Global;
     /// let scene: Scene<NodeKey, &str> = Scene::with_key(alloc)?;
     /// assert!(scene.is_empty());
+    /// # Ok(())
+    /// # }
     /// ```
     ///
     /// # Proved
@@ -206,6 +238,8 @@ impl<K: Key, T> Scene<K, T> {
     /// ensures empty { IfOk result (λ scene. IsNew scene.nodes) }
     /// ensures err { IfErr result (λ error. error ≡ ReserveError.Memory) }
     /// ```
+    ///
+    /// Words: [`IsNew`](crate::words#isnew), [`nodes`](crate::words#nodes-of-slotmap_scene-node).
     #[inline]
     pub fn with_key(alloc: Global) -> Result<Self, ReserveError> {
         Scene::with_capacity_and_key(alloc, 0)
@@ -216,9 +250,16 @@ impl<K: Key, T> Scene<K, T> {
     /// It fails with `TooGreat` if `capacity` is over 4294967294, and with `Memory` if memory runs out.
     /// It takes time linear in `capacity`.
     ///
-    /// ```ignore
+    /// ```
+    /// # use slotmap_proved::{Global, Key, NodeKey, scene};
+    /// # use slotmap_proved::scene::Scene;
+    /// # use slotmap_proved::scene::world::{HasTransform, Transform};
+    /// # fn main() -> Result<(), Box<dyn std::error::Error>> {
+    /// # let alloc = Global;
     /// let scene: Scene<NodeKey, &str> = Scene::with_capacity_and_key(alloc, 2)?;
     /// assert!(scene.capacity() >= 2);
+    /// # Ok(())
+    /// # }
     /// ```
     ///
     /// # Proved
@@ -228,6 +269,8 @@ impl<K: Key, T> Scene<K, T> {
     /// ensures room { IfOk result (λ scene. capacity ≤ scene.nodes.room) }
     /// ensures err { IfErr result (RefusesCapacity capacity) }
     /// ```
+    ///
+    /// Words: [`IsNew`](crate::words#isnew), [`nodes`](crate::words#nodes-of-slotmap_scene-node), [`RefusesCapacity`](crate::words#refusescapacity), [`room`](crate::words#room-of-slotmap_core-content).
     #[inline]
     pub fn with_capacity_and_key(alloc: Global, capacity: usize) -> Result<Self, ReserveError> {
         let nodes = Nodes::with_capacity(alloc, capacity)?;
@@ -245,10 +288,17 @@ impl<K: Key, T> Scene<K, T> {
     /// It fails with `TooGreat` if more than 4294967294 nodes would be there, counting those whose slots
     /// are retired, and with `Memory` if memory runs out. The scene has the same nodes then.
     ///
-    /// ```ignore
+    /// ```
+    /// # use slotmap_proved::{DefaultKey, Global, Key, scene};
+    /// # use slotmap_proved::scene::Scene;
+    /// # use slotmap_proved::scene::world::{HasTransform, Transform};
+    /// # fn main() -> Result<(), Box<dyn std::error::Error>> {
+    /// # let alloc = Global;
     /// let mut scene: Scene<DefaultKey, &str> = Scene::new(alloc)?;
     /// scene.reserve(2)?;
     /// assert!(scene.add_root("car").is_ok());
+    /// # Ok(())
+    /// # }
     /// ```
     ///
     /// # Proved
@@ -259,6 +309,8 @@ impl<K: Key, T> Scene<K, T> {
     /// ensures reuses { additional ≤ map.len self.old.nodes.next → IsOk result }
     /// ensures in_place { additional ≤ self.old.nodes.room → self.new ≡ self.old }
     /// ```
+    ///
+    /// Words: [`MakesRoom`](crate::words#makesroom), [`next`](crate::words#next), [`nodes`](crate::words#nodes-of-slotmap_scene-node), [`RefusesCapacity`](crate::words#refusescapacity), [`room`](crate::words#room-of-slotmap_core-content), [`used`](crate::words#used).
     #[inline]
     pub fn reserve(&mut self, additional: usize) -> Result<(), ReserveError> {
         self.nodes.reserve(additional)
@@ -268,13 +320,20 @@ impl<K: Key, T> Scene<K, T> {
     ///
     /// They form trees, and each appears exactly once in its parent's list of children, and in no other.
     ///
-    /// ```ignore
+    /// ```
+    /// # use slotmap_proved::{DefaultKey, Global, Key, scene};
+    /// # use slotmap_proved::scene::Scene;
+    /// # use slotmap_proved::scene::world::{HasTransform, Transform};
+    /// # fn main() -> Result<(), Box<dyn std::error::Error>> {
+    /// # let alloc = Global;
     /// let mut scene: Scene<DefaultKey, &str> = Scene::new(alloc)?;
     /// let car = scene.add_root("car")?;
     /// scene.add_child(car, "wheel")?;
     /// assert_eq!(scene.len(), 2);
     /// scene.remove(car);
     /// assert_eq!(scene.len(), 0);
+    /// # Ok(())
+    /// # }
     /// ```
     ///
     /// # Proved
@@ -283,6 +342,8 @@ impl<K: Key, T> Scene<K, T> {
     /// ensures value { result ≡ map.len self.now.nodes.live }
     /// ensures scene { IsScene self.now.nodes.live }
     /// ```
+    ///
+    /// Words: [`IsScene`](crate::words#isscene), [`live`](crate::words#live), [`nodes`](crate::words#nodes-of-slotmap_scene-node).
     #[inline]
     pub fn len(&self) -> usize {
         self.nodes.len()
@@ -292,9 +353,16 @@ impl<K: Key, T> Scene<K, T> {
     ///
     /// It counts the slots that are retired.
     ///
-    /// ```ignore
+    /// ```
+    /// # use slotmap_proved::{DefaultKey, Global, Key, scene};
+    /// # use slotmap_proved::scene::Scene;
+    /// # use slotmap_proved::scene::world::{HasTransform, Transform};
+    /// # fn main() -> Result<(), Box<dyn std::error::Error>> {
+    /// # let alloc = Global;
     /// let mut scene: Scene<DefaultKey, &str> = Scene::with_capacity_and_key(alloc, 2)?;
     /// assert!(scene.capacity() >= 2);
+    /// # Ok(())
+    /// # }
     /// ```
     ///
     /// # Proved
@@ -304,6 +372,8 @@ impl<K: Key, T> Scene<K, T> {
     /// ensures exact { result ≡ used self.now.nodes + self.now.nodes.room }
     /// ensures valid { IsContent true self.now.nodes }
     /// ```
+    ///
+    /// Words: [`bound`](crate::words#bound), [`IsContent`](crate::words#iscontent), [`nodes`](crate::words#nodes-of-slotmap_scene-node), [`room`](crate::words#room-of-slotmap_core-content), [`used`](crate::words#used).
     #[inline]
     pub fn capacity(&self) -> usize {
         self.nodes.capacity()
@@ -311,11 +381,18 @@ impl<K: Key, T> Scene<K, T> {
 
     /// Returns whether there is no node, in constant time.
     ///
-    /// ```ignore
+    /// ```
+    /// # use slotmap_proved::{DefaultKey, Global, Key, scene};
+    /// # use slotmap_proved::scene::Scene;
+    /// # use slotmap_proved::scene::world::{HasTransform, Transform};
+    /// # fn main() -> Result<(), Box<dyn std::error::Error>> {
+    /// # let alloc = Global;
     /// let mut scene: Scene<DefaultKey, &str> = Scene::new(alloc)?;
     /// assert!(scene.is_empty());
     /// scene.add_root("car")?;
     /// assert!(!scene.is_empty());
+    /// # Ok(())
+    /// # }
     /// ```
     ///
     /// # Proved
@@ -323,6 +400,8 @@ impl<K: Key, T> Scene<K, T> {
     /// ```text
     /// ensures { IsTrue result ↔ (map.len self.now.nodes.live ≡ 0) }
     /// ```
+    ///
+    /// Words: [`live`](crate::words#live), [`nodes`](crate::words#nodes-of-slotmap_scene-node).
     #[inline]
     pub fn is_empty(&self) -> bool {
         self.len() == 0
@@ -330,13 +409,20 @@ impl<K: Key, T> Scene<K, T> {
 
     /// Returns whether a node exists, in constant time.
     ///
-    /// ```ignore
+    /// ```
+    /// # use slotmap_proved::{DefaultKey, Global, Key, scene};
+    /// # use slotmap_proved::scene::Scene;
+    /// # use slotmap_proved::scene::world::{HasTransform, Transform};
+    /// # fn main() -> Result<(), Box<dyn std::error::Error>> {
+    /// # let alloc = Global;
     /// let mut scene: Scene<DefaultKey, &str> = Scene::new(alloc)?;
     /// let car = scene.add_root("car")?;
     /// let wheel = scene.add_child(car, "wheel")?;
     /// assert!(scene.contains_key(wheel));
     /// scene.remove(car);
     /// assert!(!scene.contains_key(wheel));
+    /// # Ok(())
+    /// # }
     /// ```
     ///
     /// # Proved
@@ -344,6 +430,8 @@ impl<K: Key, T> Scene<K, T> {
     /// ```text
     /// ensures { result ≡ map.contains_key self.now.nodes.live (K.data_of node) }
     /// ```
+    ///
+    /// Words: [`live`](crate::words#live), [`nodes`](crate::words#nodes-of-slotmap_scene-node).
     #[inline]
     pub fn contains_key(&self, node: K) -> bool {
         self.nodes.contains_key(inner(node))
@@ -351,12 +439,19 @@ impl<K: Key, T> Scene<K, T> {
 
     /// Returns the value of a node, or `None` if it doesn't exist, in constant time.
     ///
-    /// ```ignore
+    /// ```
+    /// # use slotmap_proved::{DefaultKey, Global, Key, scene};
+    /// # use slotmap_proved::scene::Scene;
+    /// # use slotmap_proved::scene::world::{HasTransform, Transform};
+    /// # fn main() -> Result<(), Box<dyn std::error::Error>> {
+    /// # let alloc = Global;
     /// let mut scene: Scene<DefaultKey, &str> = Scene::new(alloc)?;
     /// let car = scene.add_root("car")?;
     /// assert_eq!(scene.get(car), Some(&"car"));
     /// scene.remove(car);
     /// assert_eq!(scene.get(car), None);
+    /// # Ok(())
+    /// # }
     /// ```
     ///
     /// # Proved
@@ -364,6 +459,8 @@ impl<K: Key, T> Scene<K, T> {
     /// ```text
     /// ensures { option_copied result ≡ value_of self.now.nodes.live (K.data_of node) }
     /// ```
+    ///
+    /// Words: [`live`](crate::words#live), [`nodes`](crate::words#nodes-of-slotmap_scene-node), [`value_of`](crate::words#value_of-of-slotmap_scene-family).
     #[inline]
     pub fn get(&self, node: K) -> Option<&T> {
         self.nodes.get(inner(node))
@@ -372,13 +469,20 @@ impl<K: Key, T> Scene<K, T> {
     /// Returns a mutable reference to the value of a node, or `None` if it doesn't exist, in constant
     /// time.
     ///
-    /// ```ignore
+    /// ```
+    /// # use slotmap_proved::{DefaultKey, Global, Key, scene};
+    /// # use slotmap_proved::scene::Scene;
+    /// # use slotmap_proved::scene::world::{HasTransform, Transform};
+    /// # fn main() -> Result<(), Box<dyn std::error::Error>> {
+    /// # let alloc = Global;
     /// let mut scene: Scene<DefaultKey, u64> = Scene::new(alloc)?;
     /// let car = scene.add_root(1)?;
     /// if let Some(value) = scene.get_mut(car) {
     ///     *value = 2;
     /// }
     /// assert_eq!(scene.get(car), Some(&2));
+    /// # Ok(())
+    /// # }
     /// ```
     ///
     /// # Proved
@@ -387,6 +491,8 @@ impl<K: Key, T> Scene<K, T> {
     /// ensures* writes_back { sem 𝓛 (lends_value_of K.row T.row self.entry (K.data_of node) result) }
     /// ensures value { option_copied_mut result ≡ value_of self.old.nodes.live (K.data_of node) }
     /// ```
+    ///
+    /// Words: [`lends_value_of`](crate::words#lends_value_of), [`live`](crate::words#live), [`nodes`](crate::words#nodes-of-slotmap_scene-node), [`value_of`](crate::words#value_of-of-slotmap_scene-family).
     #[inline]
     pub fn get_mut(&mut self, node: K) -> Option<&mut T> {
         self.nodes.value_mut(inner(node))
@@ -397,7 +503,12 @@ impl<K: Key, T> Scene<K, T> {
     ///
     /// A node that doesn't exist has none. It is made in constant time, and each step takes constant time.
     ///
-    /// ```ignore
+    /// ```
+    /// # use slotmap_proved::{DefaultKey, Global, Key, scene};
+    /// # use slotmap_proved::scene::Scene;
+    /// # use slotmap_proved::scene::world::{HasTransform, Transform};
+    /// # fn main() -> Result<(), Box<dyn std::error::Error>> {
+    /// # let alloc = Global;
     /// let mut scene: Scene<DefaultKey, &str> = Scene::new(alloc)?;
     /// let car = scene.add_root("car")?;
     /// let wheel = scene.add_child(car, "wheel")?;
@@ -406,6 +517,8 @@ impl<K: Key, T> Scene<K, T> {
     /// assert_eq!(children.next(), Some(wheel));
     /// assert_eq!(children.next(), Some(door));
     /// assert_eq!(children.next(), None);
+    /// # Ok(())
+    /// # }
     /// ```
     ///
     /// # Proved
@@ -414,6 +527,8 @@ impl<K: Key, T> Scene<K, T> {
     /// ensures value { result ≡ children_of self.now.nodes.live (K.data_of node) }
     /// ensures listed { (k : KeyOf) → times k result ≡ is_parent (parent_of self.now.nodes.live k) (K.data_of node) }
     /// ```
+    ///
+    /// Words: [`children_of`](crate::words#children_of), [`is_parent`](crate::words#is_parent), [`Key`](crate::words#key), [`live`](crate::words#live), [`nodes`](crate::words#nodes-of-slotmap_scene-node), [`parent_of`](crate::words#parent_of), [`times`](crate::words#times).
     #[inline]
     pub fn children(&self, node: K) -> ChildKeys<'_, K, T> {
         self.nodes.children(inner(node))
@@ -422,12 +537,19 @@ impl<K: Key, T> Scene<K, T> {
     /// Returns the key of the parent of a node, or `None` if the node is a root or doesn't
     /// exist. The parent exists.
     ///
-    /// ```ignore
+    /// ```
+    /// # use slotmap_proved::{DefaultKey, Global, Key, scene};
+    /// # use slotmap_proved::scene::Scene;
+    /// # use slotmap_proved::scene::world::{HasTransform, Transform};
+    /// # fn main() -> Result<(), Box<dyn std::error::Error>> {
+    /// # let alloc = Global;
     /// let mut scene: Scene<DefaultKey, &str> = Scene::new(alloc)?;
     /// let car = scene.add_root("car")?;
     /// let wheel = scene.add_child(car, "wheel")?;
     /// assert_eq!(scene.parent(wheel), Some(car));
     /// assert_eq!(scene.parent(car), None);
+    /// # Ok(())
+    /// # }
     /// ```
     ///
     /// # Proved
@@ -436,6 +558,8 @@ impl<K: Key, T> Scene<K, T> {
     /// ensures value { option_map K.data_of result ≡ parent_of self.now.nodes.live (K.data_of node) }
     /// ensures live { IfSome result (λ parent. has_node self.now.nodes.live (K.data_of parent)) }
     /// ```
+    ///
+    /// Words: [`has_node`](crate::words#has_node), [`live`](crate::words#live), [`nodes`](crate::words#nodes-of-slotmap_scene-node), [`parent_of`](crate::words#parent_of).
     #[inline]
     pub fn parent(&self, node: K) -> Option<K> {
         Some(outer(self.parent_key(inner(node))?))

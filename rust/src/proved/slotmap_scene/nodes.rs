@@ -15,11 +15,18 @@ impl<K: Key, T> Scene<K, T> {
     /// If a slot is vacant or room was reserved, the call can't fail, and the capacity stays. If the
     /// call fails, the error holds the value, and the scene has the same trees.
     ///
-    /// ```ignore
+    /// ```
+    /// # use slotmap_proved::{DefaultKey, Global, Key, scene};
+    /// # use slotmap_proved::scene::Scene;
+    /// # use slotmap_proved::scene::world::{HasTransform, Transform};
+    /// # fn main() -> Result<(), Box<dyn std::error::Error>> {
+    /// # let alloc = Global;
     /// let mut scene: Scene<DefaultKey, &str> = Scene::new(alloc)?;
     /// let car = scene.add_root("car")?;
     /// assert_eq!(scene.parent(car), None);
     /// assert_eq!(scene.children(car).len(), 0);
+    /// # Ok(())
+    /// # }
     /// ```
     ///
     /// # Proved
@@ -37,6 +44,8 @@ impl<K: Key, T> Scene<K, T> {
     /// ensures in_place { 0 < self.old.nodes.room → memory self.new ≡ memory self.old }
     /// ensures unchanged { OnErr result (Keeps self.old.nodes self.new.nodes) }
     /// ```
+    ///
+    /// Words: [`capacity`](crate::words#capacity-of-slotmap_core-content), [`child`](crate::words#child), [`children_of`](crate::words#children_of), [`HasVacant`](crate::words#hasvacant), [`Inserts`](crate::words#inserts), [`IsSpent`](crate::words#isspent), [`Keeps`](crate::words#keeps), [`KeepsSpent`](crate::words#keepsspent), [`lacks_node`](crate::words#lacks_node), [`live`](crate::words#live), [`memory`](crate::words#memory-of-slotmap_scene-node), [`nodes`](crate::words#nodes-of-slotmap_scene-node), [`RefusesNode`](crate::words#refusesnode), [`room`](crate::words#room-of-slotmap_core-content).
     #[inline]
     pub fn add_root(&mut self, value: T) -> Result<K, InsertError<T>> {
         Ok(outer(self.nodes.insert(value, None)?))
@@ -48,25 +57,35 @@ impl<K: Key, T> Scene<K, T> {
     /// If a slot is vacant or room was reserved, it fails exactly if the parent doesn't exist, and the
     /// capacity stays. If the call fails, the error holds the value, and the scene has the same trees.
     ///
-    /// ```ignore
+    /// ```
+    /// # use slotmap_proved::{DefaultKey, Global, Key, scene};
+    /// # use slotmap_proved::scene::{AddError, Scene};
+    /// # use slotmap_proved::scene::world::{HasTransform, Transform};
+    /// # fn main() -> Result<(), Box<dyn std::error::Error>> {
+    /// # let alloc = Global;
     /// let mut scene: Scene<DefaultKey, &str> = Scene::new(alloc)?;
     /// let car = scene.add_root("car")?;
     /// let wheel = scene.add_child(car, "wheel")?;
     /// assert_eq!(scene.children(car).next(), Some(wheel));
     /// scene.remove(wheel);
     /// assert!(matches!(scene.add_child(wheel, "tyre"), Err(AddError::Gone("tyre"))));
+    /// # Ok(())
+    /// # }
     /// ```
     ///
     /// # Proved
     ///
     /// ```text
     /// // The parent has one more child, under a new key.
-    /// ensures adds { IfOk result (λ key. Inserts (record self.old.nodes { live = with_child self.old.nodes.live (K.data_of parent) (K.data_of key) }) (K.data_of key) (child (Some (K.data_of parent)) value) self.new.nodes) }
-    /// ensures gains { IfOk result (λ key. IsNewChild self.old.nodes.live self.new.nodes.live (K.data_of key) (K.data_of parent) value (children_of self.old.nodes.live (K.data_of parent) ++ K.data_of key ∷ [])) }
+    /// ensures adds { IfOk result (λ key. Inserts (record self.old.nodes { live = with_child self.old.nodes.live (K.data_of parent) (K.data_of key) })
+    ///     (K.data_of key) (child (Some (K.data_of parent)) value) self.new.nodes) }
+    /// ensures gains { IfOk result (λ key. IsNewChild self.old.nodes.live self.new.nodes.live (K.data_of key) (K.data_of parent) value
+    ///     (children_of self.old.nodes.live (K.data_of parent) ++ K.data_of key ∷ [])) }
     /// ensures fresh { IfOk result (λ key. lacks_node self.old.nodes.live (K.data_of key)) }
     /// ensures unspent { IfOk result (λ key. IsSpent self.old.nodes (K.data_of key) → ⊥) }
     /// ensures stale { KeepsSpent self.old.nodes self.new.nodes }
     /// ensures live { OnOk result (has_node self.old.nodes.live (K.data_of parent)) }
+    ///
     /// // Why the call failed, and what that leaves.
     /// ensures err { IfErr result (RefusesChild self.old.nodes (K.data_of parent) value) }
     /// ensures reuses { has_node self.old.nodes.live (K.data_of parent) → HasVacant self.old.nodes → IsOk result }
@@ -75,6 +94,8 @@ impl<K: Key, T> Scene<K, T> {
     /// ensures in_place { 0 < self.old.nodes.room → memory self.new ≡ memory self.old }
     /// ensures unchanged { OnErr result (Keeps self.old.nodes self.new.nodes) }
     /// ```
+    ///
+    /// Words: [`capacity`](crate::words#capacity-of-slotmap_core-content), [`child`](crate::words#child), [`children_of`](crate::words#children_of), [`has_node`](crate::words#has_node), [`HasVacant`](crate::words#hasvacant), [`Inserts`](crate::words#inserts), [`IsNewChild`](crate::words#isnewchild), [`IsSpent`](crate::words#isspent), [`Keeps`](crate::words#keeps), [`KeepsSpent`](crate::words#keepsspent), [`lacks_node`](crate::words#lacks_node), [`live`](crate::words#live), [`memory`](crate::words#memory-of-slotmap_scene-node), [`nodes`](crate::words#nodes-of-slotmap_scene-node), [`RefusesChild`](crate::words#refuseschild), [`room`](crate::words#room-of-slotmap_core-content), [`with_child`](crate::words#with_child).
     #[inline]
     pub fn add_child(&mut self, parent: K, value: T) -> Result<K, AddError<T>> {
         let parent = inner(parent);
@@ -91,13 +112,20 @@ impl<K: Key, T> Scene<K, T> {
     /// It fails exactly if one of the two doesn't exist, or if the new parent is the node or below it. The
     /// scene is then unchanged. The capacity stays.
     ///
-    /// ```ignore
+    /// ```
+    /// # use slotmap_proved::{DefaultKey, Global, Key, scene};
+    /// # use slotmap_proved::scene::{ReparentError, Scene};
+    /// # use slotmap_proved::scene::world::{HasTransform, Transform};
+    /// # fn main() -> Result<(), Box<dyn std::error::Error>> {
+    /// # let alloc = Global;
     /// let mut scene: Scene<DefaultKey, &str> = Scene::new(alloc)?;
     /// let car = scene.add_root("car")?;
     /// let wheel = scene.add_root("wheel")?;
     /// assert!(scene.reparent(wheel, car).is_ok());
     /// assert_eq!(scene.parent(wheel), Some(car));
     /// assert_eq!(scene.reparent(car, wheel), Err(ReparentError::Cycle));
+    /// # Ok(())
+    /// # }
     /// ```
     ///
     /// # Proved
@@ -114,6 +142,8 @@ impl<K: Key, T> Scene<K, T> {
     /// ensures err { IfErr result (RefusesParent self.old.nodes.live (K.data_of node) (K.data_of parent)) }
     /// ensures unchanged { OnErr result (self.new ≡ self.old) }
     /// ```
+    ///
+    /// Words: [`as_last_child`](crate::words#as_last_child), [`has_node`](crate::words#has_node), [`IsMoved`](crate::words#ismoved), [`IsScene`](crate::words#isscene), [`IsWithin`](crate::words#iswithin), [`KeepsSpent`](crate::words#keepsspent), [`Key`](crate::words#key), [`live`](crate::words#live), [`memory`](crate::words#memory-of-slotmap_scene-node), [`nodes`](crate::words#nodes-of-slotmap_scene-node), [`RefusesParent`](crate::words#refusesparent), [`value_of`](crate::words#value_of-of-slotmap_scene-family), [`with_trees`](crate::words#with_trees).
     #[inline]
     pub fn reparent(&mut self, node: K, parent: K) -> Result<(), ReparentError> {
         if !self.contains_key(node) {
@@ -135,13 +165,20 @@ impl<K: Key, T> Scene<K, T> {
     ///
     /// It takes constant time. It can't fail, and the capacity stays.
     ///
-    /// ```ignore
+    /// ```
+    /// # use slotmap_proved::{DefaultKey, Global, Key, scene};
+    /// # use slotmap_proved::scene::Scene;
+    /// # use slotmap_proved::scene::world::{HasTransform, Transform};
+    /// # fn main() -> Result<(), Box<dyn std::error::Error>> {
+    /// # let alloc = Global;
     /// let mut scene: Scene<DefaultKey, &str> = Scene::new(alloc)?;
     /// let car = scene.add_root("car")?;
     /// let wheel = scene.add_child(car, "wheel")?;
     /// assert!(scene.make_root(wheel));
     /// assert_eq!(scene.parent(wheel), None);
     /// assert_eq!(scene.children(car).len(), 0);
+    /// # Ok(())
+    /// # }
     /// ```
     ///
     /// # Proved
@@ -154,6 +191,8 @@ impl<K: Key, T> Scene<K, T> {
     /// ensures capacity { memory self.new ≡ memory self.old }
     /// ensures stale { KeepsSpent self.old.nodes self.new.nodes }
     /// ```
+    ///
+    /// Words: [`as_root`](crate::words#as_root), [`has_node`](crate::words#has_node), [`IsMoved`](crate::words#ismoved), [`KeepsSpent`](crate::words#keepsspent), [`Key`](crate::words#key), [`live`](crate::words#live), [`memory`](crate::words#memory-of-slotmap_scene-node), [`nodes`](crate::words#nodes-of-slotmap_scene-node), [`value_of`](crate::words#value_of-of-slotmap_scene-family), [`with_trees`](crate::words#with_trees).
     #[inline]
     pub fn make_root(&mut self, node: K) -> bool {
         let node = inner(node);
@@ -169,13 +208,20 @@ impl<K: Key, T> Scene<K, T> {
     /// If the node doesn't exist, the call returns `None` and changes nothing. No room is lost, and the
     /// capacity stays.
     ///
-    /// ```ignore
+    /// ```
+    /// # use slotmap_proved::{DefaultKey, Global, Key, scene};
+    /// # use slotmap_proved::scene::Scene;
+    /// # use slotmap_proved::scene::world::{HasTransform, Transform};
+    /// # fn main() -> Result<(), Box<dyn std::error::Error>> {
+    /// # let alloc = Global;
     /// let mut scene: Scene<DefaultKey, &str> = Scene::new(alloc)?;
     /// let car = scene.add_root("car")?;
     /// let wheel = scene.add_child(car, "wheel")?;
     /// assert_eq!(scene.remove(car), Some("car"));
     /// assert!(!scene.contains_key(wheel));
     /// assert_eq!(scene.remove(car), None);
+    /// # Ok(())
+    /// # }
     /// ```
     ///
     /// # Proved
@@ -191,6 +237,8 @@ impl<K: Key, T> Scene<K, T> {
     /// ensures fewer { OnSome result (map.len self.new.nodes.live + length (all_below self.old.nodes.live (K.data_of node)) + 1 ≡ map.len self.old.nodes.live) }
     /// ensures unchanged { IfNone result (self.new ≡ self.old) }
     /// ```
+    ///
+    /// Words: [`all_below`](crate::words#all_below), [`forgets`](crate::words#forgets), [`has_node`](crate::words#has_node), [`IsSpent`](crate::words#isspent), [`IsWithin`](crate::words#iswithin), [`KeepsSpent`](crate::words#keepsspent), [`Key`](crate::words#key), [`lacks_node`](crate::words#lacks_node), [`Leaves`](crate::words#leaves), [`live`](crate::words#live), [`memory`](crate::words#memory-of-slotmap_scene-node), [`nodes`](crate::words#nodes-of-slotmap_scene-node), [`value_of`](crate::words#value_of-of-slotmap_scene-family).
     #[inline]
     pub fn remove(&mut self, node: K) -> Option<T> {
         let node = inner(node);
@@ -206,11 +254,18 @@ impl<K: Key, T> Scene<K, T> {
     /// It takes time linear in the number of slots that have had a node. It also resets the ends of the list
     /// of children of each node that there is room for, 12 bytes a node.
     ///
-    /// ```ignore
+    /// ```
+    /// # use slotmap_proved::{DefaultKey, Global, Key, scene};
+    /// # use slotmap_proved::scene::Scene;
+    /// # use slotmap_proved::scene::world::{HasTransform, Transform};
+    /// # fn main() -> Result<(), Box<dyn std::error::Error>> {
+    /// # let alloc = Global;
     /// let mut scene: Scene<DefaultKey, &str> = Scene::new(alloc)?;
     /// let car = scene.add_root("car")?;
     /// scene.clear();
     /// assert!(!scene.contains_key(car));
+    /// # Ok(())
+    /// # }
     /// ```
     ///
     /// # Proved
@@ -222,6 +277,8 @@ impl<K: Key, T> Scene<K, T> {
     /// ensures for_good { (k : KeyOf) → has_node self.old.nodes.live k → IsSpent self.new.nodes k }
     /// ensures stale { KeepsSpent self.old.nodes self.new.nodes }
     /// ```
+    ///
+    /// Words: [`has_node`](crate::words#has_node), [`IsSpent`](crate::words#isspent), [`KeepsSpent`](crate::words#keepsspent), [`Key`](crate::words#key), [`Leaves`](crate::words#leaves), [`live`](crate::words#live), [`memory`](crate::words#memory-of-slotmap_scene-node), [`nodes`](crate::words#nodes-of-slotmap_scene-node).
     #[inline]
     pub fn clear(&mut self) {
         self.nodes.clear();

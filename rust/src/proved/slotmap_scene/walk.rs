@@ -81,7 +81,12 @@ impl<K: Key, T> Scene<K, T> {
     /// A node that doesn't exist has no visits. The iterator allocates nothing: it goes by the links between
     /// the nodes. It is made in constant time, and each step takes constant time.
     ///
-    /// ```ignore
+    /// ```
+    /// # use slotmap_proved::{DefaultKey, Global, Key, scene};
+    /// # use slotmap_proved::scene::{Scene, Visit};
+    /// # use slotmap_proved::scene::world::{HasTransform, Transform};
+    /// # fn main() -> Result<(), Box<dyn std::error::Error>> {
+    /// # let alloc = Global;
     /// let mut scene: Scene<DefaultKey, &str> = Scene::new(alloc)?;
     /// let car = scene.add_root("car")?;
     /// let door = scene.add_child(car, "door")?;
@@ -91,6 +96,8 @@ impl<K: Key, T> Scene<K, T> {
     /// assert_eq!(walk.next(), Some(Visit::Leave(door)));
     /// assert_eq!(walk.next(), Some(Visit::Leave(car)));
     /// assert_eq!(walk.next(), None);
+    /// # Ok(())
+    /// # }
     /// ```
     ///
     /// # Proved
@@ -98,9 +105,13 @@ impl<K: Key, T> Scene<K, T> {
     /// ```text
     /// ensures visits { has_node self.now.nodes.live (K.data_of node) → result ≡ visits_of self.now.nodes.live (K.data_of node) }
     /// ensures none { lacks_node self.now.nodes.live (K.data_of node) → result ≡ [] }
+    ///
     /// // Each node is entered, its children are visited in their order, and it is left.
-    /// ensures each { (k : KeyOf) → has_node self.now.nodes.live k → visits_of self.now.nodes.live k ≡ entering k ∷ of_each (visits_of self.now.nodes.live) (children_of self.now.nodes.live k) ++ leaving k ∷ [] }
+    /// ensures each { (k : KeyOf) → has_node self.now.nodes.live k
+    ///     → visits_of self.now.nodes.live k ≡ entering k ∷ of_each (visits_of self.now.nodes.live) (children_of self.now.nodes.live k) ++ leaving k ∷ [] }
     /// ```
+    ///
+    /// Words: [`children_of`](crate::words#children_of), [`entering`](crate::words#entering), [`has_node`](crate::words#has_node), [`Key`](crate::words#key), [`lacks_node`](crate::words#lacks_node), [`leaving`](crate::words#leaving), [`live`](crate::words#live), [`nodes`](crate::words#nodes-of-slotmap_scene-node), [`of_each`](crate::words#of_each), [`visits_of`](crate::words#visits_of).
     #[inline]
     pub fn walk(&self, node: K) -> Walk<'_, K, T> {
         let _ = &self.alloc;

@@ -16,12 +16,19 @@
 //! These three take time linear in the number of nodes above the given one, and none of them fails for
 //! memory.
 //!
-//! ```ignore
+//! ```
+//! # use slotmap_proved::{DefaultKey, Global, Key};
+//! # use slotmap_proved::scene::Scene;
+//! # use slotmap_proved::scene::world::{HasTransform, Offset, Transform};
+//! # fn main() -> Result<(), Box<dyn std::error::Error>> {
+//! # let alloc = Global;
 //! let mut arm: Scene<DefaultKey, Offset> = Scene::new(alloc)?;
 //! let shoulder = arm.add_root(Offset { x: 10, y: 20 })?;
 //! let elbow = arm.add_child(shoulder, Offset { x: 5, y: 0 })?;
 //! let hand = arm.add_child(elbow, Offset { x: 3, y: -4 })?;
 //! assert_eq!(arm.world(hand), Some(Offset { x: 18, y: 16 }));
+//! # Ok(())
+//! # }
 //! ```
 
 #[allow(unused_imports)]
@@ -42,10 +49,16 @@ pub trait Transform: Copy {
 
     /// Returns this value in the coordinates in which its parent is given.
     ///
-    /// ```ignore
+    /// ```
+    /// # use slotmap_proved::{Global, Key};
+    /// # use slotmap_proved::scene::world::{HasTransform, Offset, Transform};
+    /// # fn main() -> Result<(), Box<dyn std::error::Error>> {
+    /// # let alloc = Global;
     /// let hand = Offset { x: 3, y: -4 };
     /// let elbow = Offset { x: 5, y: 0 };
     /// assert_eq!(Transform::under(&hand, &elbow), Offset { x: 8, y: -4 });
+    /// # Ok(())
+    /// # }
     /// ```
     ///
     /// # Proved
@@ -67,9 +80,15 @@ pub trait HasTransform {
 
     /// Returns the transform of this value.
     ///
-    /// ```ignore
+    /// ```
+    /// # use slotmap_proved::{Global, Key};
+    /// # use slotmap_proved::scene::world::{HasTransform, Offset, Transform};
+    /// # fn main() -> Result<(), Box<dyn std::error::Error>> {
+    /// # let alloc = Global;
     /// let hand = Offset { x: 3, y: -4 };
     /// assert_eq!(HasTransform::transform(&hand), hand);
+    /// # Ok(())
+    /// # }
     /// ```
     ///
     /// # Proved
@@ -116,11 +135,18 @@ impl<K: Key, T> Scene<K, T> {
     /// before it and the value of the next node up. It returns `None` exactly if the node doesn't exist.
     /// Linear in the number of nodes above.
     ///
-    /// ```ignore
+    /// ```
+    /// # use slotmap_proved::{DefaultKey, Global, Key, scene};
+    /// # use slotmap_proved::scene::Scene;
+    /// # use slotmap_proved::scene::world::{HasTransform, Transform};
+    /// # fn main() -> Result<(), Box<dyn std::error::Error>> {
+    /// # let alloc = Global;
     /// let mut scene: Scene<DefaultKey, u64> = Scene::new(alloc)?;
     /// let car = scene.add_root(1)?;
     /// let wheel = scene.add_child(car, 2)?;
     /// assert_eq!(scene.fold_up(wheel, 0, |most: u64, value| most.max(*value)), Some(2));
+    /// # Ok(())
+    /// # }
     /// ```
     ///
     /// # Proved
@@ -131,6 +157,8 @@ impl<K: Key, T> Scene<K, T> {
     /// ensures some { IfSome result (FoldsUp F.FnMut self.now.nodes.live (K.data_of node) f start) }
     /// ensures none { IfNone result (lacks_node self.now.nodes.live (K.data_of node)) }
     /// ```
+    ///
+    /// Words: [`CallableUp`](crate::words#callableup), [`FoldsUp`](crate::words#foldsup), [`lacks_node`](crate::words#lacks_node), [`live`](crate::words#live), [`nodes`](crate::words#nodes-of-slotmap_scene-node).
     #[inline]
     pub fn fold_up<A, F: FnMut(A, &T) -> A>(&self, node: K, start: A, mut f: F) -> Option<A>
     where
@@ -158,11 +186,18 @@ impl<K: Key, T: Transform> Scene<K, T> {
     /// This is the node's own value composed with its ancestors', up to the root. It returns `None`
     /// exactly if the node doesn't exist. Linear in the number of nodes above.
     ///
-    /// ```ignore
+    /// ```
+    /// # use slotmap_proved::{DefaultKey, Global, Key};
+    /// # use slotmap_proved::scene::Scene;
+    /// # use slotmap_proved::scene::world::{HasTransform, Offset, Transform};
+    /// # fn main() -> Result<(), Box<dyn std::error::Error>> {
+    /// # let alloc = Global;
     /// let mut arm: Scene<DefaultKey, Offset> = Scene::new(alloc)?;
     /// let elbow = arm.add_root(Offset { x: 5, y: 0 })?;
     /// let hand = arm.add_child(elbow, Offset { x: 3, y: -4 })?;
     /// assert_eq!(arm.world(hand), Some(Offset { x: 8, y: -4 }));
+    /// # Ok(())
+    /// # }
     /// ```
     ///
     /// # Proved
@@ -172,6 +207,8 @@ impl<K: Key, T: Transform> Scene<K, T> {
     /// ensures joined { Joins T.under → IfSome result (IsWorld T.under self.now.nodes.live (K.data_of node)) }
     /// ensures none { IfNone result (lacks_node self.now.nodes.live (K.data_of node)) }
     /// ```
+    ///
+    /// Words: [`IsComposed`](crate::words#iscomposed), [`IsWorld`](crate::words#isworld), [`Joins`](crate::words#joins), [`lacks_node`](crate::words#lacks_node), [`live`](crate::words#live), [`nodes`](crate::words#nodes-of-slotmap_scene-node).
     #[inline]
     pub fn world(&self, node: K) -> Option<T> {
         let local = *self.nodes.get(inner(node))?;
@@ -192,11 +229,18 @@ impl<K: Key, T: HasTransform> Scene<K, T> {
     /// This is the transform of the node's own value composed with its ancestors', up to the root. It
     /// returns `None` exactly if the node doesn't exist. Linear in the number of nodes above.
     ///
-    /// ```ignore
+    /// ```
+    /// # use slotmap_proved::{DefaultKey, Global, Key};
+    /// # use slotmap_proved::scene::Scene;
+    /// # use slotmap_proved::scene::world::{HasTransform, Offset, Transform};
+    /// # fn main() -> Result<(), Box<dyn std::error::Error>> {
+    /// # let alloc = Global;
     /// let mut arm: Scene<DefaultKey, Offset> = Scene::new(alloc)?;
     /// let elbow = arm.add_root(Offset { x: 5, y: 0 })?;
     /// let hand = arm.add_child(elbow, Offset { x: 3, y: -4 })?;
     /// assert_eq!(arm.world_transform(hand), Some(Offset { x: 8, y: -4 }));
+    /// # Ok(())
+    /// # }
     /// ```
     ///
     /// # Proved
@@ -206,6 +250,8 @@ impl<K: Key, T: HasTransform> Scene<K, T> {
     /// ensures joined { Joins T.Transform.under → IfSome result (IsWorldOf T.Transform.under T.transform_of self.now.nodes.live (K.data_of node)) }
     /// ensures none { IfNone result (lacks_node self.now.nodes.live (K.data_of node)) }
     /// ```
+    ///
+    /// Words: [`IsComposed`](crate::words#iscomposed), [`IsWorldOf`](crate::words#isworldof), [`Joins`](crate::words#joins), [`lacks_node`](crate::words#lacks_node), [`live`](crate::words#live), [`nodes`](crate::words#nodes-of-slotmap_scene-node).
     #[inline]
     pub fn world_transform(&self, node: K) -> Option<T::Transform> {
         let start = self.nodes.get(inner(node))?.transform();

@@ -19,13 +19,19 @@ impl<K: Key, T> Scheduler<K, T> {
     /// - `TooGreat`: more than 4294967294 jobs would be there, counting those whose slots are retired.
     /// - `Memory`: memory runs out.
     ///
-    /// ```ignore
+    /// ```
+    /// # use slotmap_proved::{DefaultKey, Global, Key, scheduler};
+    /// # use slotmap_proved::scheduler::Scheduler;
+    /// # fn main() -> Result<(), Box<dyn std::error::Error>> {
+    /// # let alloc = Global;
     /// let mut scheduler: Scheduler<DefaultKey, &str> = Scheduler::new(alloc)?;
     /// scheduler.reserve(2)?;
     /// let capacity = scheduler.capacity();
     /// scheduler.schedule(30, "tea")?;
     /// scheduler.schedule(20, "bell")?;
     /// assert_eq!(scheduler.capacity(), capacity);
+    /// # Ok(())
+    /// # }
     /// ```
     ///
     /// # Proved
@@ -38,6 +44,8 @@ impl<K: Key, T> Scheduler<K, T> {
     /// ensures turns { self.new.turns ≡ self.old.turns }
     /// ensures stale { KeepsSpent self.old.handles self.new.handles }
     /// ```
+    ///
+    /// Words: [`handles`](crate::words#handles), [`KeepsSpent`](crate::words#keepsspent), [`MakesRoom`](crate::words#makesroom), [`next`](crate::words#next), [`RefusesCapacity`](crate::words#refusescapacity), [`turns`](crate::words#turns), [`used`](crate::words#used), [`waiting`](crate::words#waiting-of-slotmap_scheduler-schedule).
     #[inline]
     pub fn reserve(&mut self, additional: usize) -> Result<(), ReserveError> {
         if let Err(error) = self.jobs.reserve(additional) {
@@ -64,12 +72,18 @@ impl<K: Key, T> Scheduler<K, T> {
     /// the error holds the job, and the same jobs wait. The next handle stays the same. It takes time
     /// logarithmic in the number of jobs, unless a vector grows.
     ///
-    /// ```ignore
+    /// ```
+    /// # use slotmap_proved::{DefaultKey, Global, Key, scheduler};
+    /// # use slotmap_proved::scheduler::Scheduler;
+    /// # fn main() -> Result<(), Box<dyn std::error::Error>> {
+    /// # let alloc = Global;
     /// let mut scheduler: Scheduler<DefaultKey, &str> = Scheduler::new(alloc)?;
     /// let tea = scheduler.schedule(30, "tea")?;
     /// scheduler.schedule(20, "bell")?;
     /// assert_eq!(scheduler.due(tea), Some(30));
     /// assert_eq!(scheduler.len(), 2);
+    /// # Ok(())
+    /// # }
     /// ```
     ///
     /// # Proved
@@ -85,18 +99,23 @@ impl<K: Key, T> Scheduler<K, T> {
     /// ensures handles { IfOk result (λ handle. Inserts self.old.handles (K.data_of handle) tt self.new.handles) }
     /// ensures turn { OnOk result (self.old.turns < last_turn) }
     /// ensures turns { OnOk result (self.new.turns ≡ self.old.turns + 1) }
+    ///
     /// // If there is room, it can't fail, and the capacity stays. For each vacant slot there is room.
     /// ensures room { 0 < self.old.handles.room → self.old.turns < last_turn → IsOk result }
     /// ensures in_place { 0 < self.old.handles.room → self.new.handles.capacity ≡ self.old.handles.capacity }
     /// ensures reuses { HasVacant self.old.handles → self.old.turns < last_turn → IsOk result }
     /// ensures capacity { self.old.handles.capacity ≤ self.new.handles.capacity }
     /// ensures valid { IsContent true self.old.handles }
+    ///
     /// // Why the call failed, and what that leaves.
     /// ensures err { IfErr result (RefusesJob self.old job) }
     /// ensures unchanged { OnErr result (Keeps self.old.handles self.new.handles × (self.new.waiting ≡ self.old.waiting) × (self.new.turns ≡ self.old.turns)) }
+    ///
     /// // What never comes again.
     /// ensures stale { KeepsSpent self.old.handles self.new.handles }
     /// ```
+    ///
+    /// Words: [`capacity`](crate::words#capacity-of-slotmap_core-content), [`handles`](crate::words#handles), [`HasVacant`](crate::words#hasvacant), [`in_turn`](crate::words#in_turn), [`Inserts`](crate::words#inserts), [`IsContent`](crate::words#iscontent), [`IsSpent`](crate::words#isspent), [`job_of`](crate::words#job_of), [`Keeps`](crate::words#keeps), [`KeepsSpent`](crate::words#keepsspent), [`Key`](crate::words#key), [`last_turn`](crate::words#last_turn), [`RefusesJob`](crate::words#refusesjob), [`room`](crate::words#room-of-slotmap_core-content), [`turns`](crate::words#turns), [`waiting`](crate::words#waiting-of-slotmap_scheduler-schedule).
     #[inline]
     pub fn schedule(&mut self, time: u64, job: T) -> Result<K, ScheduleError<T>> {
         if self.count == u64::MAX {
@@ -115,12 +134,18 @@ impl<K: Key, T> Scheduler<K, T> {
     /// If no job waits under the handle, the call returns `None` and changes nothing. The capacity
     /// stays. It takes time logarithmic in the number of jobs.
     ///
-    /// ```ignore
+    /// ```
+    /// # use slotmap_proved::{DefaultKey, Global, Key, scheduler};
+    /// # use slotmap_proved::scheduler::Scheduler;
+    /// # fn main() -> Result<(), Box<dyn std::error::Error>> {
+    /// # let alloc = Global;
     /// let mut scheduler: Scheduler<DefaultKey, &str> = Scheduler::new(alloc)?;
     /// let tea = scheduler.schedule(30, "tea")?;
     /// assert_eq!(scheduler.cancel(tea), Some("tea"));
     /// assert_eq!(scheduler.cancel(tea), None);
     /// assert!(!scheduler.contains(tea));
+    /// # Ok(())
+    /// # }
     /// ```
     ///
     /// # Proved
@@ -133,13 +158,17 @@ impl<K: Key, T> Scheduler<K, T> {
     /// ensures handles { OnSome result (Removes self.old.handles (K.data_of handle) self.new.handles) }
     /// ensures turns { self.new.turns ≡ self.old.turns }
     /// ensures unchanged { IfNone result (self.new ≡ self.old) }
+    ///
     /// // The capacity stays, and no room is lost.
     /// ensures capacity { self.new.handles.capacity ≡ self.old.handles.capacity }
     /// ensures leaves { Leaves self.old.handles self.new.handles }
+    ///
     /// // What never comes again.
     /// ensures for_good { OnSome result (IsSpent self.new.handles (K.data_of handle)) }
     /// ensures stale { KeepsSpent self.old.handles self.new.handles }
     /// ```
+    ///
+    /// Words: [`capacity`](crate::words#capacity-of-slotmap_core-content), [`handles`](crate::words#handles), [`IsSpent`](crate::words#isspent), [`job_of`](crate::words#job_of), [`KeepsSpent`](crate::words#keepsspent), [`Key`](crate::words#key), [`Leaves`](crate::words#leaves), [`Removes`](crate::words#removes), [`turns`](crate::words#turns), [`waiting`](crate::words#waiting-of-slotmap_scheduler-schedule), [`without`](crate::words#without-of-slotmap_scheduler-schedule).
     #[inline]
     pub fn cancel(&mut self, handle: K) -> Option<T> {
         let removed = take_out(&mut self.jobs, &mut self.heap, inner(handle))?;
@@ -153,30 +182,41 @@ impl<K: Key, T> Scheduler<K, T> {
     /// out, and has changed nothing then. If it succeeds, it uses up a turn. The capacity stays. It takes
     /// time logarithmic in the number of jobs.
     ///
-    /// ```ignore
+    /// ```
+    /// # use slotmap_proved::{DefaultKey, Global, Key, scheduler};
+    /// # use slotmap_proved::scheduler::Scheduler;
+    /// # fn main() -> Result<(), Box<dyn std::error::Error>> {
+    /// # let alloc = Global;
     /// let mut scheduler: Scheduler<DefaultKey, &str> = Scheduler::new(alloc)?;
     /// let tea = scheduler.schedule(30, "tea")?;
     /// let bell = scheduler.schedule(20, "bell")?;
     /// assert!(scheduler.reschedule(bell, 40).is_ok());
     /// assert_eq!(scheduler.peek(), Some((30, tea)));
+    /// # Ok(())
+    /// # }
     /// ```
     ///
     /// # Proved
     ///
     /// ```text
     /// // The job waits under the same handle, with a new turn.
-    /// ensures moved { (before : ℕ) (job : T) → job_of (K.data_of handle) self.old.waiting ≡ Some (before, job) → OnOk result (self.new.waiting ≡ in_turn (K.data_of handle, (time, job)) (without (K.data_of handle) self.old.waiting)) }
-    /// ensures there { OnOk result (job_of (K.data_of handle) self.new.waiting ≡ option_map (λ due. (time, due.1)) (job_of (K.data_of handle) self.old.waiting)) }
+    /// ensures moved { (before : ℕ) (job : T) → job_of (K.data_of handle) self.old.waiting ≡ Some (before, job)
+    ///     → OnOk result (self.new.waiting ≡ in_turn (K.data_of handle, (time, job)) (without (K.data_of handle) self.old.waiting)) }
+    /// ensures there { OnOk result (job_of (K.data_of handle) self.new.waiting
+    ///     ≡ option_map (λ due. (time, due.1)) (job_of (K.data_of handle) self.old.waiting)) }
     /// ensures others { (q : KeyOf) → q ≢ K.data_of handle → job_of q self.new.waiting ≡ job_of q self.old.waiting }
     /// ensures as_many { length self.new.waiting ≡ length self.old.waiting }
     /// ensures waits { OnOk result (is_some (job_of (K.data_of handle) self.old.waiting) ≡ true) }
     /// ensures turn { OnOk result (self.old.turns < last_turn) }
     /// ensures turns { OnOk result (self.new.turns ≡ self.old.turns + 1) }
     /// ensures handles { self.new.handles ≡ self.old.handles }
+    ///
     /// // Why the call failed, and what that leaves.
     /// ensures err { IfErr result (RefusesMove self.old (K.data_of handle)) }
     /// ensures unchanged { OnErr result (self.new ≡ self.old) }
     /// ```
+    ///
+    /// Words: [`handles`](crate::words#handles), [`in_turn`](crate::words#in_turn), [`job_of`](crate::words#job_of), [`Key`](crate::words#key), [`last_turn`](crate::words#last_turn), [`RefusesMove`](crate::words#refusesmove), [`turns`](crate::words#turns), [`waiting`](crate::words#waiting-of-slotmap_scheduler-schedule), [`without`](crate::words#without-of-slotmap_scheduler-schedule).
     #[inline]
     pub fn reschedule(&mut self, handle: K, time: u64) -> Result<(), RescheduleError> {
         let key = inner(handle);
@@ -194,25 +234,35 @@ impl<K: Key, T> Scheduler<K, T> {
     /// Returns the time and the handle of the next job, or `None` if no job waits. It takes constant
     /// time.
     ///
-    /// ```ignore
+    /// ```
+    /// # use slotmap_proved::{DefaultKey, Global, Key, scheduler};
+    /// # use slotmap_proved::scheduler::Scheduler;
+    /// # fn main() -> Result<(), Box<dyn std::error::Error>> {
+    /// # let alloc = Global;
     /// let mut scheduler: Scheduler<DefaultKey, &str> = Scheduler::new(alloc)?;
     /// let tea = scheduler.schedule(30, "tea")?;
     /// scheduler.schedule(30, "bell")?;
     /// assert_eq!(scheduler.peek(), Some((30, tea)));
+    /// # Ok(())
+    /// # }
     /// ```
     ///
     /// # Proved
     ///
     /// ```text
     /// // It is the first of those that wait; the others are those without it.
-    /// ensures first { IfSome result (λ next. (job : T) × (self.now.waiting ≡ (K.data_of next.1, (next.0, job)) ∷ without (K.data_of next.1) self.now.waiting)) }
+    /// ensures first { IfSome result (λ next. (job : T)
+    ///     × (self.now.waiting ≡ (K.data_of next.1, (next.0, job)) ∷ without (K.data_of next.1) self.now.waiting)) }
     /// ensures none { IfNone result (self.now.waiting ≡ []) }
+    ///
     /// // No job is due before it: they are sorted by time, and each handle is there once.
     /// ensures least { IfSome result (λ next. All (λ e. next.0 ≤ e.1.0) self.now.waiting) }
     /// ensures later { (now : ℕ) → IfSome result (λ next. now < next.0 → All (λ e. now < e.1.0) self.now.waiting) }
     /// ensures sorted { IsByTime self.now.waiting }
     /// ensures once { IsOnce self.now.waiting }
     /// ```
+    ///
+    /// Words: [`IsByTime`](crate::words#isbytime), [`IsOnce`](crate::words#isonce-of-slotmap_scheduler-schedule), [`waiting`](crate::words#waiting-of-slotmap_scheduler-schedule), [`without`](crate::words#without-of-slotmap_scheduler-schedule).
     #[inline]
     pub fn peek(&self) -> Option<(u64, K)> {
         let next = self.heap.first()?;
@@ -226,33 +276,45 @@ impl<K: Key, T> Scheduler<K, T> {
     /// `schedule` or last `reschedule` came first. `None` means that no job waits. The capacity stays.
     /// It takes time logarithmic in the number of jobs.
     ///
-    /// ```ignore
+    /// ```
+    /// # use slotmap_proved::{DefaultKey, Global, Key, scheduler};
+    /// # use slotmap_proved::scheduler::Scheduler;
+    /// # fn main() -> Result<(), Box<dyn std::error::Error>> {
+    /// # let alloc = Global;
     /// let mut scheduler: Scheduler<DefaultKey, &str> = Scheduler::new(alloc)?;
     /// scheduler.schedule(30, "tea")?;
     /// let bell = scheduler.schedule(20, "bell")?;
     /// assert_eq!(scheduler.pop_next(), Some((20, bell, "bell")));
     /// assert_eq!(scheduler.len(), 1);
+    /// # Ok(())
+    /// # }
     /// ```
     ///
     /// # Proved
     ///
     /// ```text
     /// // The first job that waits is taken out. None that is left is due before it.
-    /// ensures next { IfSome result (λ due. (self.old.waiting ≡ (K.data_of due.1, (due.0, due.2)) ∷ self.new.waiting) × All (λ e. due.0 ≤ e.1.0) self.new.waiting) }
+    /// ensures next { IfSome result (λ due. (self.old.waiting ≡ (K.data_of due.1, (due.0, due.2)) ∷ self.new.waiting)
+    ///     × All (λ e. due.0 ≤ e.1.0) self.new.waiting) }
     /// ensures sorted { IsByTime self.old.waiting }
     /// ensures once { IsOnce self.old.waiting }
     /// ensures handles { IfSome result (λ due. Removes self.old.handles (K.data_of due.1) self.new.handles) }
     /// ensures turns { self.new.turns ≡ self.old.turns }
+    ///
     /// // None waits.
     /// ensures none { IfNone result (self.old.waiting ≡ []) }
     /// ensures unchanged { IfNone result (self.new ≡ self.old) }
+    ///
     /// // The capacity stays, and no room is lost.
     /// ensures capacity { self.new.handles.capacity ≡ self.old.handles.capacity }
     /// ensures leaves { Leaves self.old.handles self.new.handles }
+    ///
     /// // What never comes again.
     /// ensures for_good { IfSome result (λ due. IsSpent self.new.handles (K.data_of due.1)) }
     /// ensures stale { KeepsSpent self.old.handles self.new.handles }
     /// ```
+    ///
+    /// Words: [`capacity`](crate::words#capacity-of-slotmap_core-content), [`handles`](crate::words#handles), [`IsByTime`](crate::words#isbytime), [`IsOnce`](crate::words#isonce-of-slotmap_scheduler-schedule), [`IsSpent`](crate::words#isspent), [`KeepsSpent`](crate::words#keepsspent), [`Leaves`](crate::words#leaves), [`Removes`](crate::words#removes), [`turns`](crate::words#turns), [`waiting`](crate::words#waiting-of-slotmap_scheduler-schedule).
     #[inline]
     pub fn pop_next(&mut self) -> Option<(u64, K, T)> {
         let (time, handle) = self.peek()?;
@@ -266,11 +328,17 @@ impl<K: Key, T> Scheduler<K, T> {
     /// It is [`Scheduler::pop_due`] with the time at which the job was due. It takes time logarithmic in
     /// the number of jobs.
     ///
-    /// ```ignore
+    /// ```
+    /// # use slotmap_proved::{DefaultKey, Global, Key, scheduler};
+    /// # use slotmap_proved::scheduler::Scheduler;
+    /// # fn main() -> Result<(), Box<dyn std::error::Error>> {
+    /// # let alloc = Global;
     /// let mut scheduler: Scheduler<DefaultKey, &str> = Scheduler::new(alloc)?;
     /// let bell = scheduler.schedule(20, "bell")?;
     /// assert!(scheduler.pop_due_with_time(19).is_none());
     /// assert_eq!(scheduler.pop_due_with_time(25), Some((20, bell, "bell")));
+    /// # Ok(())
+    /// # }
     /// ```
     ///
     /// # Proved
@@ -278,21 +346,27 @@ impl<K: Key, T> Scheduler<K, T> {
     /// ```text
     /// // The first job that waits is taken out, and was due. None that is left is due before it.
     /// ensures due { IfSome result (λ due. due.0 ≤ now) }
-    /// ensures next { IfSome result (λ due. (self.old.waiting ≡ (K.data_of due.1, (due.0, due.2)) ∷ self.new.waiting) × All (λ e. due.0 ≤ e.1.0) self.new.waiting) }
+    /// ensures next { IfSome result (λ due. (self.old.waiting ≡ (K.data_of due.1, (due.0, due.2)) ∷ self.new.waiting)
+    ///     × All (λ e. due.0 ≤ e.1.0) self.new.waiting) }
     /// ensures sorted { IsByTime self.old.waiting }
     /// ensures once { IsOnce self.old.waiting }
     /// ensures handles { IfSome result (λ due. Removes self.old.handles (K.data_of due.1) self.new.handles) }
     /// ensures turns { self.new.turns ≡ self.old.turns }
+    ///
     /// // None is due.
     /// ensures none { IfNone result (All (λ e. now < e.1.0) self.old.waiting) }
     /// ensures unchanged { IfNone result (self.new ≡ self.old) }
+    ///
     /// // The capacity stays, and no room is lost.
     /// ensures capacity { self.new.handles.capacity ≡ self.old.handles.capacity }
     /// ensures leaves { Leaves self.old.handles self.new.handles }
+    ///
     /// // What never comes again.
     /// ensures for_good { IfSome result (λ due. IsSpent self.new.handles (K.data_of due.1)) }
     /// ensures stale { KeepsSpent self.old.handles self.new.handles }
     /// ```
+    ///
+    /// Words: [`capacity`](crate::words#capacity-of-slotmap_core-content), [`handles`](crate::words#handles), [`IsByTime`](crate::words#isbytime), [`IsOnce`](crate::words#isonce-of-slotmap_scheduler-schedule), [`IsSpent`](crate::words#isspent), [`KeepsSpent`](crate::words#keepsspent), [`Leaves`](crate::words#leaves), [`Removes`](crate::words#removes), [`turns`](crate::words#turns), [`waiting`](crate::words#waiting-of-slotmap_scheduler-schedule).
     #[inline]
     pub fn pop_due_with_time(&mut self, now: u64) -> Option<(u64, K, T)> {
         let (time, _) = self.peek()?;
@@ -310,33 +384,45 @@ impl<K: Key, T> Scheduler<K, T> {
     /// It takes time logarithmic in the number of jobs. [`Scheduler::pop_due_with_time`] returns the
     /// job's time too.
     ///
-    /// ```ignore
+    /// ```
+    /// # use slotmap_proved::{DefaultKey, Global, Key, scheduler};
+    /// # use slotmap_proved::scheduler::Scheduler;
+    /// # fn main() -> Result<(), Box<dyn std::error::Error>> {
+    /// # let alloc = Global;
     /// let mut scheduler: Scheduler<DefaultKey, &str> = Scheduler::new(alloc)?;
     /// let bell = scheduler.schedule(20, "bell")?;
     /// assert!(scheduler.pop_due(19).is_none());
     /// assert_eq!(scheduler.pop_due(20), Some((bell, "bell")));
     /// assert!(scheduler.is_empty());
+    /// # Ok(())
+    /// # }
     /// ```
     ///
     /// # Proved
     ///
     /// ```text
     /// // The first job that waits is taken out, and was due. None that is left is due before it.
-    /// ensures next { IfSome result (λ due. (time : ℕ) × (time ≤ now) × (self.old.waiting ≡ (K.data_of due.0, (time, due.1)) ∷ self.new.waiting) × All (λ e. time ≤ e.1.0) self.new.waiting) }
+    /// ensures next { IfSome result (λ due. (time : ℕ) × (time ≤ now)
+    ///     × (self.old.waiting ≡ (K.data_of due.0, (time, due.1)) ∷ self.new.waiting) × All (λ e. time ≤ e.1.0) self.new.waiting) }
     /// ensures sorted { IsByTime self.old.waiting }
     /// ensures once { IsOnce self.old.waiting }
     /// ensures handles { IfSome result (λ due. Removes self.old.handles (K.data_of due.0) self.new.handles) }
     /// ensures turns { self.new.turns ≡ self.old.turns }
+    ///
     /// // None is due.
     /// ensures none { IfNone result (All (λ e. now < e.1.0) self.old.waiting) }
     /// ensures unchanged { IfNone result (self.new ≡ self.old) }
+    ///
     /// // The capacity stays, and no room is lost.
     /// ensures capacity { self.new.handles.capacity ≡ self.old.handles.capacity }
     /// ensures leaves { Leaves self.old.handles self.new.handles }
+    ///
     /// // What never comes again.
     /// ensures for_good { IfSome result (λ due. IsSpent self.new.handles (K.data_of due.0)) }
     /// ensures stale { KeepsSpent self.old.handles self.new.handles }
     /// ```
+    ///
+    /// Words: [`capacity`](crate::words#capacity-of-slotmap_core-content), [`handles`](crate::words#handles), [`IsByTime`](crate::words#isbytime), [`IsOnce`](crate::words#isonce-of-slotmap_scheduler-schedule), [`IsSpent`](crate::words#isspent), [`KeepsSpent`](crate::words#keepsspent), [`Leaves`](crate::words#leaves), [`Removes`](crate::words#removes), [`turns`](crate::words#turns), [`waiting`](crate::words#waiting-of-slotmap_scheduler-schedule).
     #[inline]
     pub fn pop_due(&mut self, now: u64) -> Option<(K, T)> {
         let (_, handle, job) = self.pop_due_with_time(now)?;
@@ -358,13 +444,20 @@ impl<K: Key, T> Scheduler<K, T> {
     /// in any case. It takes time logarithmic in the number of jobs for each job that is due; the count
     /// takes constant time for each.
     ///
-    /// ```ignore
+    /// ```
+    /// # use slotmap_proved::{DefaultKey, Global, Key, scheduler};
+    /// # use slotmap_proved::fallible::Vec;
+    /// # use slotmap_proved::scheduler::Scheduler;
+    /// # fn main() -> Result<(), Box<dyn std::error::Error>> {
+    /// # let alloc = Global;
     /// let mut scheduler: Scheduler<DefaultKey, &str> = Scheduler::new(alloc)?;
     /// let tea = scheduler.schedule(30, "tea")?;
     /// let bell = scheduler.schedule(20, "bell")?;
     /// let mut due = Vec::new(alloc);
     /// scheduler.pop_all_due(30, &mut due)?;
     /// assert_eq!(due.as_slice(), [(bell, "bell"), (tea, "tea")].as_slice());
+    /// # Ok(())
+    /// # }
     /// ```
     ///
     /// # Proved
@@ -376,13 +469,16 @@ impl<K: Key, T> Scheduler<K, T> {
     /// ensures sorted { IsByTime self.old.waiting }
     /// ensures once { IsOnce self.old.waiting }
     /// ensures turns { self.new.turns ≡ self.old.turns }
+    ///
     /// // The capacity stays, and no room is lost.
     /// ensures capacity { self.new.handles.capacity ≡ self.old.handles.capacity }
     /// ensures leaves { Leaves self.old.handles self.new.handles }
+    ///
     /// // If the call fails, nothing has changed.
     /// ensures unchanged { OnErr result (self.new ≡ self.old) }
     /// ensures same_items { OnErr result (due.new.items ≡ due.old.items) }
     /// ensures same_room { OnErr result (vec_capacity due.new ≡ vec_capacity due.old) }
+    ///
     /// // It fails only where the vector lacks room for the jobs that are due. Where it has that room,
     /// // its capacity stays.
     /// ensures had_room { vec_len due.old + length (due_at now self.old.waiting) ≤ vec_capacity due.old → IsOk result }
@@ -390,10 +486,13 @@ impl<K: Key, T> Scheduler<K, T> {
     /// ensures no_less_room { vec_capacity due.old ≤ vec_capacity due.new }
     /// ensures full { OnErr result (vec_capacity due.old < vec_len due.old + length (due_at now self.old.waiting)) }
     /// ensures next_due { OnErr result (0 < length (due_at now self.old.waiting)) }
+    ///
     /// // What never comes again.
     /// ensures for_good { (k : KeyOf) → is_some (job_of k self.old.waiting) ≡ true → job_of k self.new.waiting ≡ None → IsSpent self.new.handles k }
     /// ensures stale { KeepsSpent self.old.handles self.new.handles }
     /// ```
+    ///
+    /// Words: [`capacity`](crate::words#capacity-of-slotmap_core-content), [`due_at`](crate::words#due_at), [`handles`](crate::words#handles), [`IsByTime`](crate::words#isbytime), [`IsOnce`](crate::words#isonce-of-slotmap_scheduler-schedule), [`IsSpent`](crate::words#isspent), [`job_of`](crate::words#job_of), [`KeepsSpent`](crate::words#keepsspent), [`Key`](crate::words#key), [`Leaves`](crate::words#leaves), [`TakesDue`](crate::words#takesdue), [`turns`](crate::words#turns), [`waiting`](crate::words#waiting-of-slotmap_scheduler-schedule).
     #[inline]
     pub fn pop_all_due(&mut self, now: u64, due: &mut Vec<(K, T)>) -> Result<(), AllocError> {
         let count = self.due_count(now);
@@ -408,12 +507,18 @@ impl<K: Key, T> Scheduler<K, T> {
     ///
     /// It takes time linear in the number of slots.
     ///
-    /// ```ignore
+    /// ```
+    /// # use slotmap_proved::{DefaultKey, Global, Key, scheduler};
+    /// # use slotmap_proved::scheduler::Scheduler;
+    /// # fn main() -> Result<(), Box<dyn std::error::Error>> {
+    /// # let alloc = Global;
     /// let mut scheduler: Scheduler<DefaultKey, &str> = Scheduler::new(alloc)?;
     /// let tea = scheduler.schedule(30, "tea")?;
     /// scheduler.clear();
     /// assert!(scheduler.is_empty());
     /// assert_eq!(scheduler.get(tea), None);
+    /// # Ok(())
+    /// # }
     /// ```
     ///
     /// # Proved
@@ -427,6 +532,8 @@ impl<K: Key, T> Scheduler<K, T> {
     /// ensures turns { self.new.turns ≡ self.old.turns }
     /// ensures stale { KeepsSpent self.old.handles self.new.handles }
     /// ```
+    ///
+    /// Words: [`capacity`](crate::words#capacity-of-slotmap_core-content), [`handles`](crate::words#handles), [`IsSpent`](crate::words#isspent), [`job_of`](crate::words#job_of), [`KeepsSpent`](crate::words#keepsspent), [`Key`](crate::words#key), [`Leaves`](crate::words#leaves), [`live`](crate::words#live), [`turns`](crate::words#turns), [`waiting`](crate::words#waiting-of-slotmap_scheduler-schedule).
     #[inline]
     pub fn clear(&mut self) {
         self.jobs.clear();

@@ -28,12 +28,18 @@ impl<K: Key, T: Clone> Scheduler<K, T> {
     /// own. If memory runs out, or the clone of a job fails, the call fails, and what was copied is
     /// dropped. It takes time linear in the number of slots.
     ///
-    /// ```ignore
+    /// ```
+    /// # use slotmap_proved::{DefaultKey, Global, Key, scheduler};
+    /// # use slotmap_proved::scheduler::Scheduler;
+    /// # fn main() -> Result<(), Box<dyn std::error::Error>> {
+    /// # let alloc = Global;
     /// let mut scheduler: Scheduler<DefaultKey, u64> = Scheduler::new(alloc)?;
     /// let tea = scheduler.schedule(30, 5)?;
     /// let copy = scheduler.clone()?;
     /// scheduler.cancel(tea);
     /// assert_eq!(copy.get(tea), Some(&5));
+    /// # Ok(())
+    /// # }
     /// ```
     ///
     /// # Proved
@@ -44,6 +50,8 @@ impl<K: Key, T: Clone> Scheduler<K, T> {
     /// ensures handles { IfOk result (λ copy. IsCopy self.now.handles copy.handles) }
     /// ensures turns { IfOk result (λ copy. copy.turns ≡ self.now.turns) }
     /// ```
+    ///
+    /// Words: [`AreClones`](crate::words#areclones), [`ClonesEqual`](crate::words#clonesequal), [`handles`](crate::words#handles), [`IsCopy`](crate::words#iscopy), [`IsDueClone`](crate::words#isdueclone), [`turns`](crate::words#turns), [`waiting`](crate::words#waiting-of-slotmap_scheduler-schedule).
     #[inline]
     pub fn clone(&self) -> Result<Self, AllocError> {
         let jobs = self.jobs.clone()?;

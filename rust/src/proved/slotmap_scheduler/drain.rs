@@ -59,13 +59,19 @@ impl<K: Key, T> Scheduler<K, T> {
     /// the capacity stays. The iterator is made in constant time. Each step takes time logarithmic in the
     /// number of jobs, and the drop takes time linear in the number of slots.
     ///
-    /// ```ignore
+    /// ```
+    /// # use slotmap_proved::{DefaultKey, Global, Key, scheduler};
+    /// # use slotmap_proved::scheduler::Scheduler;
+    /// # fn main() -> Result<(), Box<dyn std::error::Error>> {
+    /// # let alloc = Global;
     /// let mut scheduler: Scheduler<DefaultKey, &str> = Scheduler::new(alloc)?;
     /// scheduler.schedule(30, "tea")?;
     /// let bell = scheduler.schedule(20, "bell")?;
     /// let first = scheduler.drain().next(); // the drain is dropped here
     /// assert_eq!(first, Some((bell, 20, "bell")));
     /// assert!(scheduler.is_empty());
+    /// # Ok(())
+    /// # }
     /// ```
     ///
     /// # Proved
@@ -75,10 +81,13 @@ impl<K: Key, T> Scheduler<K, T> {
     /// ensures same_reference { (drain_loan result).ghost_name ≡ self.entry.ghost_name }
     /// ensures sorted { IsByTime self.old.waiting }
     /// ensures once { IsOnce self.old.waiting }
+    ///
     /// // Laws of the steps, for callers that take more of them.
     /// ensures stays { KeepsLent K.data_of result }
     /// ensures in_order { YieldsInOrder K.data_of result }
     /// ```
+    ///
+    /// Words: [`drain_loan`](crate::words#drain_loan-of-slotmap_scheduler-drain), [`IsByTime`](crate::words#isbytime), [`IsOnce`](crate::words#isonce-of-slotmap_scheduler-schedule), [`KeepsLent`](crate::words#keepslent-of-slotmap_scheduler-drain), [`waiting`](crate::words#waiting-of-slotmap_scheduler-schedule), [`YieldsInOrder`](crate::words#yieldsinorder-of-slotmap_scheduler-drain).
     #[inline]
     pub fn drain(&mut self) -> Drain<'_, K, T> {
         // Reads the scheduler, which says that its jobs are in order and each handle is there once.

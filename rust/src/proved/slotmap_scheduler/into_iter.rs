@@ -15,7 +15,11 @@ use crate::rt::std::iter::FusedIterator;
 /// nothing. Each step takes time logarithmic in the number of jobs and can't fail. Dropping it drops the
 /// jobs that are left.
 ///
-/// ```ignore
+/// ```
+/// # use slotmap_proved::{DefaultKey, Global, Key, scheduler};
+/// # use slotmap_proved::scheduler::Scheduler;
+/// # fn main() -> Result<(), Box<dyn std::error::Error>> {
+/// # let alloc = Global;
 /// let mut scheduler: Scheduler<DefaultKey, &str> = Scheduler::new(alloc)?;
 /// let tea = scheduler.schedule(30, "tea")?;
 /// let bell = scheduler.schedule(20, "bell")?;
@@ -23,6 +27,8 @@ use crate::rt::std::iter::FusedIterator;
 /// assert_eq!(jobs.next(), Some((bell, 20, "bell")));
 /// assert_eq!(jobs.next(), Some((tea, 30, "tea")));
 /// assert!(jobs.next().is_none());
+/// # Ok(())
+/// # }
 /// ```
 pub struct IntoIter<K, T> {
     scheduler: Scheduler<K, T>,

@@ -129,12 +129,18 @@ impl<K: Key, T> Scheduler<K, T> {
     ///
     /// It is made in constant time. All its steps together read each slot once.
     ///
-    /// ```ignore
+    /// ```
+    /// # use slotmap_proved::{DefaultKey, Global, Key, scheduler};
+    /// # use slotmap_proved::scheduler::Scheduler;
+    /// # fn main() -> Result<(), Box<dyn std::error::Error>> {
+    /// # let alloc = Global;
     /// let mut scheduler: Scheduler<DefaultKey, &str> = Scheduler::new(alloc)?;
     /// let tea = scheduler.schedule(30, "tea")?;
     /// let mut jobs = scheduler.iter();
     /// assert_eq!(jobs.next(), Some((tea, 30, &"tea")));
     /// assert!(jobs.next().is_none());
+    /// # Ok(())
+    /// # }
     /// ```
     ///
     /// # Proved
@@ -144,6 +150,8 @@ impl<K: Key, T> Scheduler<K, T> {
     /// ensures in_order { list_map (λ e. e.0) result ≡ map.keys self.now.handles.live }
     /// ensures once { IsOnce result }
     /// ```
+    ///
+    /// Words: [`handles`](crate::words#handles), [`IsOnce`](crate::words#isonce-of-slotmap_scheduler-schedule), [`ListsJobs`](crate::words#listsjobs), [`live`](crate::words#live), [`waiting`](crate::words#waiting-of-slotmap_scheduler-schedule).
     #[inline]
     pub fn iter(&self) -> Iter<'_, K, T> {
         Iter {
@@ -156,10 +164,16 @@ impl<K: Key, T> Scheduler<K, T> {
     ///
     /// It is made in constant time. All its steps together read each slot once.
     ///
-    /// ```ignore
+    /// ```
+    /// # use slotmap_proved::{DefaultKey, Global, Key, scheduler};
+    /// # use slotmap_proved::scheduler::Scheduler;
+    /// # fn main() -> Result<(), Box<dyn std::error::Error>> {
+    /// # let alloc = Global;
     /// let mut scheduler: Scheduler<DefaultKey, &str> = Scheduler::new(alloc)?;
     /// let tea = scheduler.schedule(30, "tea")?;
     /// assert_eq!(scheduler.keys().next(), Some(tea));
+    /// # Ok(())
+    /// # }
     /// ```
     ///
     /// # Proved
@@ -168,6 +182,8 @@ impl<K: Key, T> Scheduler<K, T> {
     /// ensures jobs { (jobs : Waiting T) × ListsJobs self.now.waiting jobs × (result ≡ list_map (λ e. e.0) jobs) }
     /// ensures in_order { result ≡ map.keys self.now.handles.live }
     /// ```
+    ///
+    /// Words: [`handles`](crate::words#handles), [`ListsJobs`](crate::words#listsjobs), [`live`](crate::words#live), [`Waiting`](crate::words#waiting-of-slotmap_scheduler-schedule), [`waiting`](crate::words#waiting-of-slotmap_scheduler-schedule).
     #[inline]
     pub fn keys(&self) -> Keys<'_, K, T> {
         Keys { jobs: self.iter() }
@@ -177,17 +193,26 @@ impl<K: Key, T> Scheduler<K, T> {
     ///
     /// It is made in constant time. All its steps together read each slot once.
     ///
-    /// ```ignore
+    /// ```
+    /// # use slotmap_proved::{DefaultKey, Global, Key, scheduler};
+    /// # use slotmap_proved::scheduler::Scheduler;
+    /// # fn main() -> Result<(), Box<dyn std::error::Error>> {
+    /// # let alloc = Global;
     /// let mut scheduler: Scheduler<DefaultKey, &str> = Scheduler::new(alloc)?;
     /// scheduler.schedule(30, "tea")?;
     /// assert_eq!(scheduler.values().next(), Some(&"tea"));
+    /// # Ok(())
+    /// # }
     /// ```
     ///
     /// # Proved
     ///
     /// ```text
-    /// ensures jobs { (jobs : Waiting T) × ListsJobs self.now.waiting jobs × (list_map (λ e. e.0) jobs ≡ map.keys self.now.handles.live) × (result ≡ list_map (λ e. e.1.1) jobs) }
+    /// ensures jobs { (jobs : Waiting T) × ListsJobs self.now.waiting jobs × (list_map (λ e. e.0) jobs ≡ map.keys self.now.handles.live)
+    ///     × (result ≡ list_map (λ e. e.1.1) jobs) }
     /// ```
+    ///
+    /// Words: [`handles`](crate::words#handles), [`ListsJobs`](crate::words#listsjobs), [`live`](crate::words#live), [`Waiting`](crate::words#waiting-of-slotmap_scheduler-schedule), [`waiting`](crate::words#waiting-of-slotmap_scheduler-schedule).
     #[inline]
     pub fn values(&self) -> Values<'_, K, T> {
         Values { jobs: self.iter() }

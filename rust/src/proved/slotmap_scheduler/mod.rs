@@ -26,13 +26,19 @@
 //! out. `reserve` takes time linear in the number of slots if a vector grows, else constant time.
 //! `peek`, `get`, `due`, `len` and the like take constant time.
 //!
-//! ```ignore
+//! ```
+//! # use slotmap_proved::{DefaultKey, Global, Key, scheduler};
+//! # use slotmap_proved::scheduler::Scheduler;
+//! # fn main() -> Result<(), Box<dyn std::error::Error>> {
+//! # let alloc = Global;
 //! let mut scheduler: Scheduler<DefaultKey, &str> = Scheduler::new(alloc)?;
 //! let tea = scheduler.schedule(30, "tea")?;
 //! let bell = scheduler.schedule(20, "bell")?;
 //! scheduler.cancel(bell);
 //! assert!(scheduler.pop_due(29).is_none());
 //! assert_eq!(scheduler.pop_due(30), Some((tea, "tea")));
+//! # Ok(())
+//! # }
 //! ```
 
 #[allow(unused_imports)]
@@ -101,9 +107,15 @@ impl<T> Scheduler<DefaultKey, T> {
     ///
     /// It fails only if memory runs out.
     ///
-    /// ```ignore
+    /// ```
+    /// # use slotmap_proved::{DefaultKey, Global, Key, scheduler};
+    /// # use slotmap_proved::scheduler::Scheduler;
+    /// # fn main() -> Result<(), Box<dyn std::error::Error>> {
+    /// # let alloc = Global;
     /// let scheduler: Scheduler<DefaultKey, &str> = Scheduler::new(alloc)?;
     /// assert!(scheduler.is_empty());
+    /// # Ok(())
+    /// # }
     /// ```
     ///
     /// # Proved
@@ -114,6 +126,8 @@ impl<T> Scheduler<DefaultKey, T> {
     /// ensures turns { IfOk result (λ made. made.turns ≡ 0) }
     /// ensures err { IfErr result (λ error. error ≡ ReserveError.Memory) }
     /// ```
+    ///
+    /// Words: [`handles`](crate::words#handles), [`IsNew`](crate::words#isnew), [`turns`](crate::words#turns), [`waiting`](crate::words#waiting-of-slotmap_scheduler-schedule).
     #[inline]
     pub fn new(alloc: Global) -> Result<Self, ReserveError> {
         Scheduler::with_key(alloc)
@@ -125,9 +139,15 @@ impl<T> Scheduler<DefaultKey, T> {
     /// The next `capacity` schedules don't fail for memory. It fails with `TooGreat` if `capacity`
     /// is over 4294967294, and with `Memory` if memory runs out.
     ///
-    /// ```ignore
+    /// ```
+    /// # use slotmap_proved::{DefaultKey, Global, Key, scheduler};
+    /// # use slotmap_proved::scheduler::Scheduler;
+    /// # fn main() -> Result<(), Box<dyn std::error::Error>> {
+    /// # let alloc = Global;
     /// let mut scheduler: Scheduler<DefaultKey, &str> = Scheduler::with_capacity(alloc, 1)?;
     /// assert!(scheduler.schedule(30, "tea").is_ok());
+    /// # Ok(())
+    /// # }
     /// ```
     ///
     /// # Proved
@@ -139,6 +159,8 @@ impl<T> Scheduler<DefaultKey, T> {
     /// ensures turns { IfOk result (λ made. made.turns ≡ 0) }
     /// ensures err { IfErr result (RefusesCapacity capacity) }
     /// ```
+    ///
+    /// Words: [`handles`](crate::words#handles), [`IsNew`](crate::words#isnew), [`RefusesCapacity`](crate::words#refusescapacity), [`room`](crate::words#room-of-slotmap_core-content), [`turns`](crate::words#turns), [`waiting`](crate::words#waiting-of-slotmap_scheduler-schedule).
     #[inline]
     pub fn with_capacity(alloc: Global, capacity: usize) -> Result<Self, ReserveError> {
         Scheduler::with_capacity_and_key(alloc, capacity)
@@ -150,9 +172,15 @@ impl<K: Key, T> Scheduler<K, T> {
     ///
     /// It fails only if memory runs out.
     ///
-    /// ```ignore
+    /// ```
+    /// # use slotmap_proved::{Global, Key, NodeKey, scheduler};
+    /// # use slotmap_proved::scheduler::Scheduler;
+    /// # fn main() -> Result<(), Box<dyn std::error::Error>> {
+    /// # let alloc = Global;
     /// let scheduler: Scheduler<NodeKey, &str> = Scheduler::with_key(alloc)?;
     /// assert!(scheduler.is_empty());
+    /// # Ok(())
+    /// # }
     /// ```
     ///
     /// # Proved
@@ -163,6 +191,8 @@ impl<K: Key, T> Scheduler<K, T> {
     /// ensures turns { IfOk result (λ made. made.turns ≡ 0) }
     /// ensures err { IfErr result (λ error. error ≡ ReserveError.Memory) }
     /// ```
+    ///
+    /// Words: [`handles`](crate::words#handles), [`IsNew`](crate::words#isnew), [`turns`](crate::words#turns), [`waiting`](crate::words#waiting-of-slotmap_scheduler-schedule).
     #[inline]
     pub fn with_key(alloc: Global) -> Result<Self, ReserveError> {
         Scheduler::with_capacity_and_key(alloc, 0)
@@ -173,9 +203,15 @@ impl<K: Key, T> Scheduler<K, T> {
     /// The next `capacity` schedules don't fail for memory. It fails with `TooGreat` if `capacity`
     /// is over 4294967294, and with `Memory` if memory runs out.
     ///
-    /// ```ignore
+    /// ```
+    /// # use slotmap_proved::{Global, Key, NodeKey, scheduler};
+    /// # use slotmap_proved::scheduler::Scheduler;
+    /// # fn main() -> Result<(), Box<dyn std::error::Error>> {
+    /// # let alloc = Global;
     /// let mut scheduler: Scheduler<NodeKey, &str> = Scheduler::with_capacity_and_key(alloc, 1)?;
     /// assert!(scheduler.schedule(30, "tea").is_ok());
+    /// # Ok(())
+    /// # }
     /// ```
     ///
     /// # Proved
@@ -187,6 +223,8 @@ impl<K: Key, T> Scheduler<K, T> {
     /// ensures turns { IfOk result (λ made. made.turns ≡ 0) }
     /// ensures err { IfErr result (RefusesCapacity capacity) }
     /// ```
+    ///
+    /// Words: [`handles`](crate::words#handles), [`IsNew`](crate::words#isnew), [`RefusesCapacity`](crate::words#refusescapacity), [`room`](crate::words#room-of-slotmap_core-content), [`turns`](crate::words#turns), [`waiting`](crate::words#waiting-of-slotmap_scheduler-schedule).
     #[inline]
     pub fn with_capacity_and_key(alloc: Global, capacity: usize) -> Result<Self, ReserveError> {
         let jobs = SlotMap::with_capacity(alloc, capacity)?;
@@ -201,12 +239,18 @@ impl<K: Key, T> Scheduler<K, T> {
 
     /// Returns how many jobs wait, in constant time.
     ///
-    /// ```ignore
+    /// ```
+    /// # use slotmap_proved::{DefaultKey, Global, Key, scheduler};
+    /// # use slotmap_proved::scheduler::Scheduler;
+    /// # fn main() -> Result<(), Box<dyn std::error::Error>> {
+    /// # let alloc = Global;
     /// let mut scheduler: Scheduler<DefaultKey, &str> = Scheduler::new(alloc)?;
     /// scheduler.schedule(30, "tea")?;
     /// assert_eq!(scheduler.len(), 1);
     /// scheduler.pop_due(30);
     /// assert_eq!(scheduler.len(), 0);
+    /// # Ok(())
+    /// # }
     /// ```
     ///
     /// # Proved
@@ -218,6 +262,8 @@ impl<K: Key, T> Scheduler<K, T> {
     /// ensures sorted { IsByTime self.now.waiting }
     /// ensures once { IsOnce self.now.waiting }
     /// ```
+    ///
+    /// Words: [`handles`](crate::words#handles), [`IsByTime`](crate::words#isbytime), [`IsOnce`](crate::words#isonce-of-slotmap_scheduler-schedule), [`job_of`](crate::words#job_of), [`Key`](crate::words#key), [`live`](crate::words#live), [`waiting`](crate::words#waiting-of-slotmap_scheduler-schedule).
     #[inline]
     pub fn len(&self) -> usize {
         self.jobs.len()
@@ -225,11 +271,17 @@ impl<K: Key, T> Scheduler<K, T> {
 
     /// Returns whether no job waits, in constant time.
     ///
-    /// ```ignore
+    /// ```
+    /// # use slotmap_proved::{DefaultKey, Global, Key, scheduler};
+    /// # use slotmap_proved::scheduler::Scheduler;
+    /// # fn main() -> Result<(), Box<dyn std::error::Error>> {
+    /// # let alloc = Global;
     /// let mut scheduler: Scheduler<DefaultKey, &str> = Scheduler::new(alloc)?;
     /// assert!(scheduler.is_empty());
     /// scheduler.schedule(30, "tea")?;
     /// assert!(!scheduler.is_empty());
+    /// # Ok(())
+    /// # }
     /// ```
     ///
     /// # Proved
@@ -237,6 +289,8 @@ impl<K: Key, T> Scheduler<K, T> {
     /// ```text
     /// ensures { IsTrue result ↔ (self.now.waiting ≡ []) }
     /// ```
+    ///
+    /// Words: [`waiting`](crate::words#waiting-of-slotmap_scheduler-schedule).
     #[inline]
     pub fn is_empty(&self) -> bool {
         self.len() == 0
@@ -245,12 +299,18 @@ impl<K: Key, T> Scheduler<K, T> {
     /// Returns for how many jobs there is memory, in constant time. These are at least those that wait and
     /// those for which there is room.
     ///
-    /// ```ignore
+    /// ```
+    /// # use slotmap_proved::{DefaultKey, Global, Key, scheduler};
+    /// # use slotmap_proved::scheduler::Scheduler;
+    /// # fn main() -> Result<(), Box<dyn std::error::Error>> {
+    /// # let alloc = Global;
     /// let mut scheduler: Scheduler<DefaultKey, &str> = Scheduler::with_capacity(alloc, 2)?;
     /// let capacity = scheduler.capacity();
     /// assert!(capacity >= 2);
     /// scheduler.schedule(30, "tea")?;
     /// assert_eq!(scheduler.capacity(), capacity);
+    /// # Ok(())
+    /// # }
     /// ```
     ///
     /// # Proved
@@ -260,6 +320,8 @@ impl<K: Key, T> Scheduler<K, T> {
     /// ensures fits { map.len self.now.handles.live + self.now.handles.room ≤ result }
     /// ensures valid { IsContent true self.now.handles }
     /// ```
+    ///
+    /// Words: [`capacity`](crate::words#capacity-of-slotmap_core-content), [`handles`](crate::words#handles), [`IsContent`](crate::words#iscontent), [`live`](crate::words#live), [`room`](crate::words#room-of-slotmap_core-content).
     #[inline]
     pub fn capacity(&self) -> usize {
         self.jobs.capacity().min(self.heap.capacity())
@@ -267,12 +329,18 @@ impl<K: Key, T> Scheduler<K, T> {
 
     /// Returns whether a job waits under a handle, in constant time.
     ///
-    /// ```ignore
+    /// ```
+    /// # use slotmap_proved::{DefaultKey, Global, Key, scheduler};
+    /// # use slotmap_proved::scheduler::Scheduler;
+    /// # fn main() -> Result<(), Box<dyn std::error::Error>> {
+    /// # let alloc = Global;
     /// let mut scheduler: Scheduler<DefaultKey, &str> = Scheduler::new(alloc)?;
     /// let tea = scheduler.schedule(30, "tea")?;
     /// assert!(scheduler.contains(tea));
     /// scheduler.pop_due(30);
     /// assert!(!scheduler.contains(tea));
+    /// # Ok(())
+    /// # }
     /// ```
     ///
     /// # Proved
@@ -281,6 +349,8 @@ impl<K: Key, T> Scheduler<K, T> {
     /// ensures value { result ≡ is_some (job_of (K.data_of handle) self.now.waiting) }
     /// ensures live { result ≡ map.contains_key self.now.handles.live (K.data_of handle) }
     /// ```
+    ///
+    /// Words: [`handles`](crate::words#handles), [`job_of`](crate::words#job_of), [`live`](crate::words#live), [`waiting`](crate::words#waiting-of-slotmap_scheduler-schedule).
     #[inline]
     pub fn contains(&self, handle: K) -> bool {
         self.jobs.contains_key(inner(handle))
@@ -288,12 +358,18 @@ impl<K: Key, T> Scheduler<K, T> {
 
     /// Returns the job of a handle, or `None` if no job waits under it, in constant time.
     ///
-    /// ```ignore
+    /// ```
+    /// # use slotmap_proved::{DefaultKey, Global, Key, scheduler};
+    /// # use slotmap_proved::scheduler::Scheduler;
+    /// # fn main() -> Result<(), Box<dyn std::error::Error>> {
+    /// # let alloc = Global;
     /// let mut scheduler: Scheduler<DefaultKey, &str> = Scheduler::new(alloc)?;
     /// let tea = scheduler.schedule(30, "tea")?;
     /// assert_eq!(scheduler.get(tea), Some(&"tea"));
     /// scheduler.cancel(tea);
     /// assert_eq!(scheduler.get(tea), None);
+    /// # Ok(())
+    /// # }
     /// ```
     ///
     /// # Proved
@@ -301,6 +377,8 @@ impl<K: Key, T> Scheduler<K, T> {
     /// ```text
     /// ensures { option_copied result ≡ option_map (λ due. due.1) (job_of (K.data_of handle) self.now.waiting) }
     /// ```
+    ///
+    /// Words: [`job_of`](crate::words#job_of), [`waiting`](crate::words#waiting-of-slotmap_scheduler-schedule).
     #[inline]
     pub fn get(&self, handle: K) -> Option<&T> {
         Some(&self.jobs.get(inner(handle))?.job)
@@ -308,12 +386,18 @@ impl<K: Key, T> Scheduler<K, T> {
 
     /// Returns when the job of a handle is due, or `None` if no job waits under it, in constant time.
     ///
-    /// ```ignore
+    /// ```
+    /// # use slotmap_proved::{DefaultKey, Global, Key, scheduler};
+    /// # use slotmap_proved::scheduler::Scheduler;
+    /// # fn main() -> Result<(), Box<dyn std::error::Error>> {
+    /// # let alloc = Global;
     /// let mut scheduler: Scheduler<DefaultKey, &str> = Scheduler::new(alloc)?;
     /// let tea = scheduler.schedule(30, "tea")?;
     /// assert_eq!(scheduler.due(tea), Some(30));
     /// scheduler.cancel(tea);
     /// assert_eq!(scheduler.due(tea), None);
+    /// # Ok(())
+    /// # }
     /// ```
     ///
     /// # Proved
@@ -321,6 +405,8 @@ impl<K: Key, T> Scheduler<K, T> {
     /// ```text
     /// ensures { result ≡ option_map (λ due. due.0) (job_of (K.data_of handle) self.now.waiting) }
     /// ```
+    ///
+    /// Words: [`job_of`](crate::words#job_of), [`waiting`](crate::words#waiting-of-slotmap_scheduler-schedule).
     #[inline]
     pub fn due(&self, handle: K) -> Option<u64> {
         Some(self.jobs.get(inner(handle))?.turn.0)
@@ -329,13 +415,19 @@ impl<K: Key, T> Scheduler<K, T> {
     /// Returns a mutable reference to the job of a handle, or `None` if no job waits under it, in
     /// constant time. Its turn stays.
     ///
-    /// ```ignore
+    /// ```
+    /// # use slotmap_proved::{DefaultKey, Global, Key, scheduler};
+    /// # use slotmap_proved::scheduler::Scheduler;
+    /// # fn main() -> Result<(), Box<dyn std::error::Error>> {
+    /// # let alloc = Global;
     /// let mut scheduler: Scheduler<DefaultKey, u64> = Scheduler::new(alloc)?;
     /// let handle = scheduler.schedule(30, 5)?;
     /// if let Some(job) = scheduler.get_mut(handle) {
     ///     *job = 6;
     /// }
     /// assert_eq!(scheduler.get(handle), Some(&6));
+    /// # Ok(())
+    /// # }
     /// ```
     ///
     /// # Proved
@@ -344,6 +436,8 @@ impl<K: Key, T> Scheduler<K, T> {
     /// ensures* writes_back { sem 𝓛 (lends_job K.row T.row self.entry (K.data_of handle) result) }
     /// ensures value { option_copied_mut result ≡ option_map (λ due. due.1) (job_of (K.data_of handle) self.old.waiting) }
     /// ```
+    ///
+    /// Words: [`job_of`](crate::words#job_of), [`lends_job`](crate::words#lends_job), [`waiting`](crate::words#waiting-of-slotmap_scheduler-schedule).
     #[inline]
     pub fn get_mut(&mut self, handle: K) -> Option<&mut T> {
         match self.jobs.get_mut(inner(handle)) {

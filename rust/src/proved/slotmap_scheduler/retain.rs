@@ -40,7 +40,11 @@ impl<K: Key, T> Scheduler<K, T> {
     /// a removed one is never used again. No room is lost, and the capacity stays. It takes time linear in
     /// the number of slots, and logarithmic in the number of jobs for each that it removes.
     ///
-    /// ```ignore
+    /// ```
+    /// # use slotmap_proved::{DefaultKey, Global, Key, scheduler};
+    /// # use slotmap_proved::scheduler::Scheduler;
+    /// # fn main() -> Result<(), Box<dyn std::error::Error>> {
+    /// # let alloc = Global;
     /// let mut scheduler: Scheduler<DefaultKey, &str> = Scheduler::new(alloc)?;
     /// let tea = scheduler.schedule(30, "tea")?;
     /// let bell = scheduler.schedule(20, "bell")?;
@@ -50,6 +54,8 @@ impl<K: Key, T> Scheduler<K, T> {
     /// });
     /// assert_eq!(scheduler.get(tea), Some(&"kettle"));
     /// assert!(!scheduler.contains(bell));
+    /// # Ok(())
+    /// # }
     /// ```
     ///
     /// # Proved
@@ -60,13 +66,17 @@ impl<K: Key, T> Scheduler<K, T> {
     /// ensures retained { RetainsJobs F.FnMut K.data_of f self.old.waiting self.new.waiting }
     /// ensures once { IsOnce self.old.waiting }
     /// ensures turns { self.new.turns ≡ self.old.turns }
+    ///
     /// // The capacity stays, and no room is lost.
     /// ensures capacity { self.new.handles.capacity ≡ self.old.handles.capacity }
     /// ensures leaves { Leaves self.old.handles self.new.handles }
+    ///
     /// // What never comes again.
     /// ensures for_good { (k : KeyOf) → is_some (job_of k self.old.waiting) ≡ true → job_of k self.new.waiting ≡ None → IsSpent self.new.handles k }
     /// ensures stale { KeepsSpent self.old.handles self.new.handles }
     /// ```
+    ///
+    /// Words: [`CallableOnJobs`](crate::words#callableonjobs), [`capacity`](crate::words#capacity-of-slotmap_core-content), [`handles`](crate::words#handles), [`IsOnce`](crate::words#isonce-of-slotmap_scheduler-schedule), [`IsSpent`](crate::words#isspent), [`job_of`](crate::words#job_of), [`KeepsSpent`](crate::words#keepsspent), [`Key`](crate::words#key), [`Leaves`](crate::words#leaves), [`RetainsJobs`](crate::words#retainsjobs), [`turns`](crate::words#turns), [`waiting`](crate::words#waiting-of-slotmap_scheduler-schedule).
     #[inline]
     pub fn retain<F: FnMut(K, u64, &mut T) -> bool>(&mut self, mut f: F)
     where

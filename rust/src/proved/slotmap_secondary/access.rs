@@ -14,9 +14,20 @@ impl<K: Key, V> SecondaryMap<K, V> {
     ///
     /// The null key never is, nor is a key at whose index the map holds another version.
     ///
-    /// ```ignore
+    /// ```
+    /// # use slotmap_proved::{DefaultKey, Global, Key};
+    /// # use slotmap_proved::fallible::{SecondaryMap, SlotMap};
+    /// # fn main() -> Result<(), Box<dyn std::error::Error>> {
+    /// # let alloc = Global;
+    /// # let mut primary: SlotMap<DefaultKey, u64> = SlotMap::new(alloc)?;
+    /// # let a = primary.insert(10)?;
+    /// # let b = primary.insert(20)?;
+    /// # let mut map: SecondaryMap<DefaultKey, u64> = SecondaryMap::new(alloc)?;
+    /// # map.insert(a, 1)?;
     /// assert!(map.contains_key(a));
     /// assert!(!map.contains_key(b));
+    /// # Ok(())
+    /// # }
     /// ```
     ///
     /// # Proved
@@ -25,6 +36,8 @@ impl<K: Key, V> SecondaryMap<K, V> {
     /// ensures value { result ≡ contains_key self.now.pairs (K.data_of key) }
     /// ensures valid { IsSideContent self.now }
     /// ```
+    ///
+    /// Words: [`contains_key`](crate::words#contains_key), [`IsSideContent`](crate::words#issidecontent), [`pairs`](crate::words#pairs-of-slotmap_secondary-content).
     #[inline]
     pub fn contains_key(&self, key: K) -> bool {
         let key = key.data();
@@ -38,9 +51,20 @@ impl<K: Key, V> SecondaryMap<K, V> {
     ///
     /// Takes constant time.
     ///
-    /// ```ignore
+    /// ```
+    /// # use slotmap_proved::{DefaultKey, Global, Key};
+    /// # use slotmap_proved::fallible::{SecondaryMap, SlotMap};
+    /// # fn main() -> Result<(), Box<dyn std::error::Error>> {
+    /// # let alloc = Global;
+    /// # let mut primary: SlotMap<DefaultKey, u64> = SlotMap::new(alloc)?;
+    /// # let a = primary.insert(10)?;
+    /// # let b = primary.insert(20)?;
+    /// # let mut map: SecondaryMap<DefaultKey, u64> = SecondaryMap::new(alloc)?;
+    /// # map.insert(a, 1)?;
     /// assert_eq!(map.get(a).copied(), Some(1));
     /// assert_eq!(map.get(b), None);
+    /// # Ok(())
+    /// # }
     /// ```
     ///
     /// # Proved
@@ -49,6 +73,8 @@ impl<K: Key, V> SecondaryMap<K, V> {
     /// ensures value { option_copied result ≡ get self.now.pairs (K.data_of key) }
     /// ensures valid { IsSideContent self.now }
     /// ```
+    ///
+    /// Words: [`get`](crate::words#get), [`IsSideContent`](crate::words#issidecontent), [`pairs`](crate::words#pairs-of-slotmap_secondary-content).
     #[inline]
     pub fn get(&self, key: K) -> Option<&V> {
         let key = key.data();
@@ -60,9 +86,20 @@ impl<K: Key, V> SecondaryMap<K, V> {
     /// The caller has to prove that the key is in the map. So the call is safe, where Rust's is
     /// `unsafe`. Takes constant time, and compares no versions.
     ///
-    /// ```ignore
+    /// ```
+    /// # use slotmap_proved::{DefaultKey, Global, Key};
+    /// # use slotmap_proved::fallible::{SecondaryMap, SlotMap};
+    /// # fn main() -> Result<(), Box<dyn std::error::Error>> {
+    /// # let alloc = Global;
+    /// # let mut primary: SlotMap<DefaultKey, u64> = SlotMap::new(alloc)?;
+    /// # let a = primary.insert(10)?;
+    /// # let b = primary.insert(20)?;
+    /// # let mut map: SecondaryMap<DefaultKey, u64> = SecondaryMap::new(alloc)?;
+    /// # map.insert(a, 1)?;
     /// map.insert(b, 2)?;
     /// assert_eq!(*map.get_unchecked(b), 2);
+    /// # Ok(())
+    /// # }
     /// ```
     ///
     /// # Proved
@@ -72,6 +109,8 @@ impl<K: Key, V> SecondaryMap<K, V> {
     /// ensures value { get self.now.pairs (K.data_of key) ≡ Some result.now }
     /// ensures valid { IsSideContent self.now }
     /// ```
+    ///
+    /// Words: [`contains_key`](crate::words#contains_key), [`get`](crate::words#get), [`IsSideContent`](crate::words#issidecontent), [`pairs`](crate::words#pairs-of-slotmap_secondary-content).
     #[inline]
     pub fn get_unchecked(&self, key: K) -> &V {
         assert!(self.contains_key(key), "the map holds no value under the key");
@@ -83,11 +122,22 @@ impl<K: Key, V> SecondaryMap<K, V> {
     /// Once the reference ends, the key has the last value written through it, and all else is as
     /// before. Takes constant time.
     ///
-    /// ```ignore
+    /// ```
+    /// # use slotmap_proved::{DefaultKey, Global, Key};
+    /// # use slotmap_proved::fallible::{SecondaryMap, SlotMap};
+    /// # fn main() -> Result<(), Box<dyn std::error::Error>> {
+    /// # let alloc = Global;
+    /// # let mut primary: SlotMap<DefaultKey, u64> = SlotMap::new(alloc)?;
+    /// # let a = primary.insert(10)?;
+    /// # let b = primary.insert(20)?;
+    /// # let mut map: SecondaryMap<DefaultKey, u64> = SecondaryMap::new(alloc)?;
+    /// # map.insert(a, 1)?;
     /// if let Some(value) = map.get_mut(a) {
     ///     *value = 8;
     /// }
     /// assert_eq!(map.get(a).copied(), Some(8));
+    /// # Ok(())
+    /// # }
     /// ```
     ///
     /// # Proved
@@ -97,6 +147,8 @@ impl<K: Key, V> SecondaryMap<K, V> {
     /// ensures value { option_copied_mut result ≡ get self.old.pairs (K.data_of key) }
     /// ensures valid { IsSideContent self.old }
     /// ```
+    ///
+    /// Words: [`get`](crate::words#get), [`IsSideContent`](crate::words#issidecontent), [`lends_get`](crate::words#lends_get-of-slotmap_secondary-lends), [`pairs`](crate::words#pairs-of-slotmap_secondary-content).
     #[inline]
     pub fn get_mut(&mut self, key: K) -> Option<&mut V> {
         if self.contains_key(key) {
@@ -111,9 +163,20 @@ impl<K: Key, V> SecondaryMap<K, V> {
     /// The caller has to prove that the key is in the map. So the call is safe, where Rust's is
     /// `unsafe`. Takes constant time, and compares no versions.
     ///
-    /// ```ignore
+    /// ```
+    /// # use slotmap_proved::{DefaultKey, Global, Key};
+    /// # use slotmap_proved::fallible::{SecondaryMap, SlotMap};
+    /// # fn main() -> Result<(), Box<dyn std::error::Error>> {
+    /// # let alloc = Global;
+    /// # let mut primary: SlotMap<DefaultKey, u64> = SlotMap::new(alloc)?;
+    /// # let a = primary.insert(10)?;
+    /// # let b = primary.insert(20)?;
+    /// # let mut map: SecondaryMap<DefaultKey, u64> = SecondaryMap::new(alloc)?;
+    /// # map.insert(a, 1)?;
     /// *map.get_unchecked_mut(a) = 8;
     /// assert_eq!(map.get(a).copied(), Some(8));
+    /// # Ok(())
+    /// # }
     /// ```
     ///
     /// # Proved
@@ -124,6 +187,8 @@ impl<K: Key, V> SecondaryMap<K, V> {
     /// ensures value { get self.old.pairs (K.data_of key) ≡ Some result.now }
     /// ensures valid { IsSideContent self.old }
     /// ```
+    ///
+    /// Words: [`contains_key`](crate::words#contains_key), [`get`](crate::words#get), [`IsSideContent`](crate::words#issidecontent), [`lends_value`](crate::words#lends_value-of-slotmap_secondary-lends), [`pairs`](crate::words#pairs-of-slotmap_secondary-content).
     #[inline]
     pub fn get_unchecked_mut(&mut self, key: K) -> &mut V {
         assert!(self.contains_key(key), "the map holds no value under the key");
@@ -139,22 +204,22 @@ impl<K: Key, V> SecondaryMap<K, V> {
     /// It allocates nothing. It looks up each key, and compares each with each; so its time doesn't
     /// depend on the size of the map. Rust's `get_disjoint_mut` returns mutable references instead.
     ///
-    /// ```ignore
+    /// ```
+    /// # use slotmap_proved::{DefaultKey, Global, Key};
+    /// # use slotmap_proved::fallible::{SecondaryMap, SlotMap};
+    /// # fn main() -> Result<(), Box<dyn std::error::Error>> {
+    /// # let alloc = Global;
+    /// # let mut primary: SlotMap<DefaultKey, u64> = SlotMap::new(alloc)?;
+    /// # let a = primary.insert(10)?;
+    /// # let b = primary.insert(20)?;
+    /// # let mut map: SecondaryMap<DefaultKey, u64> = SecondaryMap::new(alloc)?;
+    /// # map.insert(a, 1)?;
     /// map.insert(b, 2)?;
-    /// assert_eq!(map.replace_disjoint([a, b], [3, 4])?, [1, 2]);
+    /// assert_eq!(map.replace_disjoint([a, b], [3, 4]).unwrap(), [1, 2]);
     /// assert!(map.replace_disjoint([a, a], [5, 6]).is_err());
     /// assert_eq!((map[a], map[b]), (3, 4));
-    /// ```
-    ///
-    /// # Proved
-    ///
-    /// ```text
-    /// ensures which { IsOk result ↔ CanReplace get self.old.pairs (map_list K.data_of keys) }
-    /// ensures value { IfOk result (AreValuesOf get self.old.pairs (map_list K.data_of keys)) }
-    /// ensures ok { OnOk result (self.new ≡ record self.old { pairs = with_values bind self.old.pairs (map_list K.data_of keys) values; }) }
-    /// ensures err { IfErr result (λ back. back ≡ values) }
-    /// ensures unchanged { OnErr result (self.new ≡ self.old) }
-    /// ensures valid { IsSideContent self.new }
+    /// # Ok(())
+    /// # }
     /// ```
     #[inline]
     pub fn replace_disjoint<const N: usize>(
@@ -199,9 +264,20 @@ impl<K: Key, V> Index<K> for SecondaryMap<K, V> {
     /// The caller has to prove that the key is in the map; Rust panics if it isn't. Takes constant
     /// time.
     ///
-    /// ```ignore
+    /// ```
+    /// # use slotmap_proved::{DefaultKey, Global, Key};
+    /// # use slotmap_proved::fallible::{SecondaryMap, SlotMap};
+    /// # fn main() -> Result<(), Box<dyn std::error::Error>> {
+    /// # let alloc = Global;
+    /// # let mut primary: SlotMap<DefaultKey, u64> = SlotMap::new(alloc)?;
+    /// # let a = primary.insert(10)?;
+    /// # let b = primary.insert(20)?;
+    /// # let mut map: SecondaryMap<DefaultKey, u64> = SecondaryMap::new(alloc)?;
+    /// # map.insert(a, 1)?;
     /// map.insert(b, 2)?;
     /// assert_eq!((map[a], map[b]), (1, 2));
+    /// # Ok(())
+    /// # }
     /// ```
     #[inline]
     fn index(&self, key: K) -> &V {
@@ -216,9 +292,20 @@ impl<K: Key, V> IndexMut<K> for SecondaryMap<K, V> {
     /// The caller has to prove that the key is in the map; Rust panics if it isn't. Takes constant
     /// time, and compares no versions.
     ///
-    /// ```ignore
+    /// ```
+    /// # use slotmap_proved::{DefaultKey, Global, Key};
+    /// # use slotmap_proved::fallible::{SecondaryMap, SlotMap};
+    /// # fn main() -> Result<(), Box<dyn std::error::Error>> {
+    /// # let alloc = Global;
+    /// # let mut primary: SlotMap<DefaultKey, u64> = SlotMap::new(alloc)?;
+    /// # let a = primary.insert(10)?;
+    /// # let b = primary.insert(20)?;
+    /// # let mut map: SecondaryMap<DefaultKey, u64> = SecondaryMap::new(alloc)?;
+    /// # map.insert(a, 1)?;
     /// map[a] = 8;
     /// assert_eq!(map[a], 8);
+    /// # Ok(())
+    /// # }
     /// ```
     ///
     /// # Proved
@@ -229,6 +316,8 @@ impl<K: Key, V> IndexMut<K> for SecondaryMap<K, V> {
     /// ensures value { get self.old.pairs (K.data_of key) ≡ Some result.now }
     /// ensures valid { IsSideContent self.old }
     /// ```
+    ///
+    /// Words: [`contains_key`](crate::words#contains_key), [`get`](crate::words#get), [`IsSideContent`](crate::words#issidecontent), [`lends_value`](crate::words#lends_value-of-slotmap_secondary-lends), [`pairs`](crate::words#pairs-of-slotmap_secondary-content).
     #[inline]
     fn index_mut(&mut self, key: K) -> &mut V {
         assert!(self.contains_key(key), "the map holds no value under the key");

@@ -13,9 +13,20 @@ impl<K: Key, V> SecondaryMap<K, V> {
     /// The capacity stays the same. Takes time linear in the number of slots. In Rust a key at
     /// index 0 stays in the map.
     ///
-    /// ```ignore
+    /// ```
+    /// # use slotmap_proved::{DefaultKey, Global, Key};
+    /// # use slotmap_proved::fallible::{SecondaryMap, SlotMap};
+    /// # fn main() -> Result<(), Box<dyn std::error::Error>> {
+    /// # let alloc = Global;
+    /// # let mut primary: SlotMap<DefaultKey, u64> = SlotMap::new(alloc)?;
+    /// # let a = primary.insert(10)?;
+    /// # let b = primary.insert(20)?;
+    /// # let mut map: SecondaryMap<DefaultKey, u64> = SecondaryMap::new(alloc)?;
+    /// # map.insert(a, 1)?;
     /// map.clear();
     /// assert!(map.is_empty());
+    /// # Ok(())
+    /// # }
     /// ```
     ///
     /// # Proved
@@ -24,6 +35,8 @@ impl<K: Key, V> SecondaryMap<K, V> {
     /// ensures empty { self.new ≡ record self.old { pairs = map.empty } }
     /// ensures valid { IsSideContent self.new }
     /// ```
+    ///
+    /// Words: [`IsSideContent`](crate::words#issidecontent).
     #[inline]
     pub fn clear(&mut self) {
         self.clear_from(0);

@@ -77,11 +77,22 @@ impl<K: Key, V> SecondaryMap<K, V> {
     /// map is empty. The capacity stays the same. All steps and the drop together read each slot
     /// once. In Rust a key at index 0 stays in the map.
     ///
-    /// ```ignore
+    /// ```
+    /// # use slotmap_proved::{DefaultKey, Global, Key};
+    /// # use slotmap_proved::fallible::{SecondaryMap, SlotMap};
+    /// # fn main() -> Result<(), Box<dyn std::error::Error>> {
+    /// # let alloc = Global;
+    /// # let mut primary: SlotMap<DefaultKey, u64> = SlotMap::new(alloc)?;
+    /// # let a = primary.insert(10)?;
+    /// # let b = primary.insert(20)?;
+    /// # let mut map: SecondaryMap<DefaultKey, u64> = SecondaryMap::new(alloc)?;
+    /// # map.insert(a, 1)?;
     /// map.insert(b, 2)?;
     /// let first = map.drain().next(); // the drain is dropped here
     /// assert_eq!(first, Some((a, 1)));
     /// assert!(map.is_empty());
+    /// # Ok(())
+    /// # }
     /// ```
     ///
     /// # Proved
@@ -90,12 +101,16 @@ impl<K: Key, V> SecondaryMap<K, V> {
     /// ensures map { (side_drain_loan result).now ≡ self.old }
     /// ensures same_reference { (side_drain_loan result).ghost_name ≡ self.entry.ghost_name }
     /// ensures ready { SideDrainCanStep result }
+    ///
     /// // Laws of the steps, for callers that go on with the iterator.
     /// ensures stays { KeepsAlong (SideDrainSteps K.data_of) (KeepsLoan side_drain_loan EmptiesSide) result }
     /// ensures lists { ListsAlong K.data_of (λ d. keyed (side_drain_loan d).now.pairs) (SideDrainSteps K.data_of) result }
     /// ensures in_order { InOrderAlong K.data_of (λ d. keyed (side_drain_loan d).now.pairs) (SideDrainSteps K.data_of) result }
+    ///
     /// ensures valid { IsSideContent self.old }
     /// ```
+    ///
+    /// Words: [`EmptiesSide`](crate::words#emptiesside), [`InOrderAlong`](crate::words#inorderalong), [`IsSideContent`](crate::words#issidecontent), [`KeepsAlong`](crate::words#keepsalong), [`KeepsLoan`](crate::words#keepsloan), [`keyed`](crate::words#keyed), [`ListsAlong`](crate::words#listsalong), [`pairs`](crate::words#pairs-of-slotmap_secondary-content), [`side_drain_loan`](crate::words#side_drain_loan), [`SideDrainCanStep`](crate::words#sidedraincanstep), [`SideDrainSteps`](crate::words#sidedrainsteps).
     #[inline]
     pub fn drain(&mut self) -> Drain<'_, K, V> {
         self.note_valid();

@@ -47,12 +47,23 @@ impl<K: Key, V> SecondaryMap<K, V> {
     /// proof needs it, call `try_entry`. In Rust a vacant slot has no entry for versions from 2147483648 on; here it has
     /// a vacant one.
     ///
-    /// ```ignore
+    /// ```
+    /// # use slotmap_proved::{DefaultKey, Global, Key};
+    /// # use slotmap_proved::fallible::{SecondaryMap, SlotMap};
+    /// # fn main() -> Result<(), Box<dyn std::error::Error>> {
+    /// # let alloc = Global;
+    /// # let mut primary: SlotMap<DefaultKey, u64> = SlotMap::new(alloc)?;
+    /// # let a = primary.insert(10)?;
+    /// # let b = primary.insert(20)?;
+    /// # let mut map: SecondaryMap<DefaultKey, u64> = SecondaryMap::new(alloc)?;
+    /// # map.insert(a, 1)?;
     /// if let Some(entry) = map.entry(b)? {
     ///     entry.or_insert(5);
     /// }
     /// assert_eq!(map.get(b).copied(), Some(5));
     /// assert!(map.entry(DefaultKey::null())?.is_none());
+    /// # Ok(())
+    /// # }
     /// ```
     ///
     /// # Proved
@@ -60,11 +71,15 @@ impl<K: Key, V> SecondaryMap<K, V> {
     /// ```text
     /// ensures which { IfOk result (IsEntryOf K.data_of self.old.pairs (K.data_of key)) }
     /// ensures ok { IfEntry result (Enters K.data_of self.entry key) }
+    ///
     /// // Fails only if a slot has to be made; never at an index up to `capacity`.
     /// ensures err { OnErr result (entry self.old.pairs (K.data_of key) ≡ vacant) }
     /// ensures room { (K.data_of key).index ≤ self.old.capacity → IsOk result }
+    ///
     /// ensures valid { IsSideContent self.old }
     /// ```
+    ///
+    /// Words: [`capacity`](crate::words#capacity-of-slotmap_secondary-content), [`Enters`](crate::words#enters-of-slotmap_secondary-entry), [`entry`](crate::words#entry-of-slotmap_core-secondary), [`IfEntry`](crate::words#ifentry-of-slotmap_secondary-entry), [`index`](crate::words#index), [`IsEntryOf`](crate::words#isentryof-of-slotmap_secondary-entry), [`IsSideContent`](crate::words#issidecontent), [`pairs`](crate::words#pairs-of-slotmap_secondary-content), [`vacant`](crate::words#vacant).
     #[inline]
     pub fn entry(&mut self, key: K) -> Result<Option<Entry<'_, K, V>>, OutOfMemory> {
         match self.try_entry(key) {
@@ -79,10 +94,21 @@ impl<K: Key, V> SecondaryMap<K, V> {
     /// `Memory` is its error if the allocation fails. After either error the map is unchanged.
     /// Apart from that it does the same as `entry`, at the same cost. Rust lacks this call.
     ///
-    /// ```ignore
+    /// ```
+    /// # use slotmap_proved::{DefaultKey, Global, Key, NoEntry};
+    /// # use slotmap_proved::fallible::{SecondaryMap, SlotMap};
+    /// # fn main() -> Result<(), Box<dyn std::error::Error>> {
+    /// # let alloc = Global;
+    /// # let mut primary: SlotMap<DefaultKey, u64> = SlotMap::new(alloc)?;
+    /// # let a = primary.insert(10)?;
+    /// # let b = primary.insert(20)?;
+    /// # let mut map: SecondaryMap<DefaultKey, u64> = SecondaryMap::new(alloc)?;
+    /// # map.insert(a, 1)?;
     /// *map.try_entry(a)?.or_insert(0) = 5;
     /// assert_eq!(map.get(a).copied(), Some(5));
     /// assert!(matches!(map.try_entry(DefaultKey::null()), Err(NoEntry::Older)));
+    /// # Ok(())
+    /// # }
     /// ```
     ///
     /// # Proved
@@ -90,11 +116,15 @@ impl<K: Key, V> SecondaryMap<K, V> {
     /// ```text
     /// ensures which { IfOk result (λ e. IsEntryOf K.data_of self.old.pairs (K.data_of key) (Some e)) }
     /// ensures ok { IfOk result (Enters K.data_of self.entry key) }
+    ///
     /// ensures err { IfErr result (RefusesEntry self.old.pairs (K.data_of key)) }
     /// ensures* unchanged { sem 𝓛 (rests_if_err K.row V.row self.entry result) }
     /// ensures room { result ≡ Err no_entry.Memory → self.old.capacity < (K.data_of key).index }
+    ///
     /// ensures valid { IsSideContent self.old }
     /// ```
+    ///
+    /// Words: [`capacity`](crate::words#capacity-of-slotmap_secondary-content), [`Enters`](crate::words#enters-of-slotmap_secondary-entry), [`index`](crate::words#index), [`IsEntryOf`](crate::words#isentryof-of-slotmap_secondary-entry), [`IsSideContent`](crate::words#issidecontent), [`pairs`](crate::words#pairs-of-slotmap_secondary-content), [`RefusesEntry`](crate::words#refusesentry), [`rests_if_err`](crate::words#rests_if_err-of-slotmap_secondary-entry).
     #[inline]
     pub fn try_entry(&mut self, key: K) -> Result<Entry<'_, K, V>, NoEntry> {
         match self.find(key) {
@@ -113,9 +143,20 @@ impl<K: Key, V> SecondaryMap<K, V> {
 impl<'a, K: Key, V> Entry<'a, K, V> {
     /// Returns the key, in constant time.
     ///
-    /// ```ignore
+    /// ```
+    /// # use slotmap_proved::{DefaultKey, Global, Key};
+    /// # use slotmap_proved::fallible::{SecondaryMap, SlotMap};
+    /// # fn main() -> Result<(), Box<dyn std::error::Error>> {
+    /// # let alloc = Global;
+    /// # let mut primary: SlotMap<DefaultKey, u64> = SlotMap::new(alloc)?;
+    /// # let a = primary.insert(10)?;
+    /// # let b = primary.insert(20)?;
+    /// # let mut map: SecondaryMap<DefaultKey, u64> = SecondaryMap::new(alloc)?;
+    /// # map.insert(a, 1)?;
     /// let entry = map.try_entry(b)?;
     /// assert_eq!(entry.key(), b);
+    /// # Ok(())
+    /// # }
     /// ```
     ///
     /// # Proved
@@ -123,6 +164,8 @@ impl<'a, K: Key, V> Entry<'a, K, V> {
     /// ```text
     /// ensures { result ≡ side_entry_key self.now }
     /// ```
+    ///
+    /// Words: [`side_entry_key`](crate::words#side_entry_key).
     #[inline]
     pub fn key(&self) -> K {
         match self {
@@ -136,9 +179,20 @@ impl<'a, K: Key, V> Entry<'a, K, V> {
     /// If the key has no value, `f` isn't called. The caller has to prove that `f` may be called on
     /// the value that the key has, and on no other. Takes constant time beside `f`.
     ///
-    /// ```ignore
+    /// ```
+    /// # use slotmap_proved::{DefaultKey, Global, Key};
+    /// # use slotmap_proved::fallible::{SecondaryMap, SlotMap};
+    /// # fn main() -> Result<(), Box<dyn std::error::Error>> {
+    /// # let alloc = Global;
+    /// # let mut primary: SlotMap<DefaultKey, u64> = SlotMap::new(alloc)?;
+    /// # let a = primary.insert(10)?;
+    /// # let b = primary.insert(20)?;
+    /// # let mut map: SecondaryMap<DefaultKey, u64> = SecondaryMap::new(alloc)?;
+    /// # map.insert(a, 1)?;
     /// let changed = map.try_entry(a)?.and_modify(|value| *value = 5);
     /// assert_eq!(*changed.or_insert(0), 5);
+    /// # Ok(())
+    /// # }
     /// ```
     ///
     /// # Proved
@@ -154,6 +208,8 @@ impl<'a, K: Key, V> Entry<'a, K, V> {
     /// ensures same_removal { entry_without K.data_of result ≡ entry_without K.data_of self.entry }
     /// ensures value { ModifiesValue F.FnOnce f (side_entry_value K.data_of self.entry) (side_entry_value K.data_of result) }
     /// ```
+    ///
+    /// Words: [`entry_lender`](crate::words#entry_lender-of-slotmap_secondary-entry), [`entry_without`](crate::words#entry_without-of-slotmap_secondary-entry), [`IsSideInPlace`](crate::words#issideinplace), [`side_entry_key`](crate::words#side_entry_key), [`side_entry_value`](crate::words#side_entry_value), [`side_entry_with`](crate::words#side_entry_with).
     #[inline]
     pub fn and_modify<F: FnOnce(&mut V)>(self, f: F) -> Entry<'a, K, V>
     where
@@ -174,10 +230,21 @@ impl<'a, K: Key, V> Entry<'a, K, V> {
     /// The reference is valid for as long as the map is borrowed. Takes constant time and allocates
     /// nothing.
     ///
-    /// ```ignore
+    /// ```
+    /// # use slotmap_proved::{DefaultKey, Global, Key};
+    /// # use slotmap_proved::fallible::{SecondaryMap, SlotMap};
+    /// # fn main() -> Result<(), Box<dyn std::error::Error>> {
+    /// # let alloc = Global;
+    /// # let mut primary: SlotMap<DefaultKey, u64> = SlotMap::new(alloc)?;
+    /// # let a = primary.insert(10)?;
+    /// # let b = primary.insert(20)?;
+    /// # let mut map: SecondaryMap<DefaultKey, u64> = SecondaryMap::new(alloc)?;
+    /// # map.insert(a, 1)?;
     /// *map.try_entry(a)?.or_insert(7) = 5;
     /// assert_eq!(*map.try_entry(a)?.or_insert(7), 5);
     /// assert_eq!(*map.try_entry(b)?.or_insert(7), 7);
+    /// # Ok(())
+    /// # }
     /// ```
     ///
     /// # Proved
@@ -187,6 +254,8 @@ impl<'a, K: Key, V> Entry<'a, K, V> {
     /// ensures* writes_back { sem 𝓛 (entry_lends K.row V.row K.data_of self.entry result) }
     /// ensures value { result.now ≡ unwrap_or (side_entry_value K.data_of self.entry) value }
     /// ```
+    ///
+    /// Words: [`entry_lends`](crate::words#entry_lends-of-slotmap_secondary-entry), [`IsSideInPlace`](crate::words#issideinplace), [`side_entry_value`](crate::words#side_entry_value).
     #[inline]
     pub fn or_insert(self, value: V) -> &'a mut V {
         match self {
@@ -200,9 +269,20 @@ impl<'a, K: Key, V> Entry<'a, K, V> {
     /// `f` is called if and only if the key has no value. Apart from that it does the same as
     /// `or_insert`, at the same cost.
     ///
-    /// ```ignore
+    /// ```
+    /// # use slotmap_proved::{DefaultKey, Global, Key};
+    /// # use slotmap_proved::fallible::{SecondaryMap, SlotMap};
+    /// # fn main() -> Result<(), Box<dyn std::error::Error>> {
+    /// # let alloc = Global;
+    /// # let mut primary: SlotMap<DefaultKey, u64> = SlotMap::new(alloc)?;
+    /// # let a = primary.insert(10)?;
+    /// # let b = primary.insert(20)?;
+    /// # let mut map: SecondaryMap<DefaultKey, u64> = SecondaryMap::new(alloc)?;
+    /// # map.insert(a, 1)?;
     /// assert_eq!(*map.try_entry(a)?.or_insert_with(|| 7), 1);
     /// assert_eq!(*map.try_entry(b)?.or_insert_with(|| 7), 7);
+    /// # Ok(())
+    /// # }
     /// ```
     ///
     /// # Proved
@@ -213,6 +293,8 @@ impl<'a, K: Key, V> Entry<'a, K, V> {
     /// ensures* writes_back { sem 𝓛 (entry_lends K.row V.row K.data_of self.entry result) }
     /// ensures value { UnwrapsOrElse (side_entry_value K.data_of self.entry) (F.post f) result.now }
     /// ```
+    ///
+    /// Words: [`entry_lends`](crate::words#entry_lends-of-slotmap_secondary-entry), [`IsSideInPlace`](crate::words#issideinplace), [`side_entry_value`](crate::words#side_entry_value).
     #[inline]
     pub fn or_insert_with<F: FnOnce() -> V>(self, f: F) -> &'a mut V
     where
@@ -228,9 +310,20 @@ impl<'a, K: Key, V> Entry<'a, K, V> {
     ///
     /// Apart from that it does the same as `or_insert`, at the same cost.
     ///
-    /// ```ignore
+    /// ```
+    /// # use slotmap_proved::{DefaultKey, Global, Key};
+    /// # use slotmap_proved::fallible::{SecondaryMap, SlotMap};
+    /// # fn main() -> Result<(), Box<dyn std::error::Error>> {
+    /// # let alloc = Global;
+    /// # let mut primary: SlotMap<DefaultKey, u64> = SlotMap::new(alloc)?;
+    /// # let a = primary.insert(10)?;
+    /// # let b = primary.insert(20)?;
+    /// # let mut map: SecondaryMap<DefaultKey, u64> = SecondaryMap::new(alloc)?;
+    /// # map.insert(a, 1)?;
     /// assert_eq!(*map.try_entry(a)?.or_default(), 1);
     /// assert_eq!(*map.try_entry(b)?.or_default(), 0);
+    /// # Ok(())
+    /// # }
     /// ```
     ///
     /// # Proved
@@ -240,6 +333,8 @@ impl<'a, K: Key, V> Entry<'a, K, V> {
     /// ensures* writes_back { sem 𝓛 (entry_lends K.row V.row K.data_of self.entry result) }
     /// ensures value { UnwrapsOrElse (side_entry_value K.data_of self.entry) V.is_default result.now }
     /// ```
+    ///
+    /// Words: [`entry_lends`](crate::words#entry_lends-of-slotmap_secondary-entry), [`IsSideInPlace`](crate::words#issideinplace), [`side_entry_value`](crate::words#side_entry_value).
     #[inline]
     pub fn or_default(self) -> &'a mut V
     where
@@ -255,10 +350,21 @@ impl<'a, K: Key, V> Entry<'a, K, V> {
 impl<'a, K: Key, V> VacantEntry<'a, K, V> {
     /// Returns the key, in constant time.
     ///
-    /// ```ignore
+    /// ```
+    /// # use slotmap_proved::{DefaultKey, Global, Key};
+    /// # use slotmap_proved::fallible::{secondary, SecondaryMap, SlotMap};
+    /// # fn main() -> Result<(), Box<dyn std::error::Error>> {
+    /// # let alloc = Global;
+    /// # let mut primary: SlotMap<DefaultKey, u64> = SlotMap::new(alloc)?;
+    /// # let a = primary.insert(10)?;
+    /// # let b = primary.insert(20)?;
+    /// # let mut map: SecondaryMap<DefaultKey, u64> = SecondaryMap::new(alloc)?;
+    /// # map.insert(a, 1)?;
     /// if let secondary::Entry::Vacant(entry) = map.try_entry(b)? {
     ///     assert_eq!(entry.key(), b);
     /// }
+    /// # Ok(())
+    /// # }
     /// ```
     ///
     /// # Proved
@@ -266,6 +372,8 @@ impl<'a, K: Key, V> VacantEntry<'a, K, V> {
     /// ```text
     /// ensures { result ≡ side_entry_key (Vacant self.now) }
     /// ```
+    ///
+    /// Words: [`side_entry_key`](crate::words#side_entry_key).
     #[inline]
     pub fn key(&self) -> K {
         self.key
@@ -275,11 +383,22 @@ impl<'a, K: Key, V> VacantEntry<'a, K, V> {
     ///
     /// An older key at the same index is removed. Takes constant time and allocates nothing.
     ///
-    /// ```ignore
+    /// ```
+    /// # use slotmap_proved::{DefaultKey, Global, Key};
+    /// # use slotmap_proved::fallible::{secondary, SecondaryMap, SlotMap};
+    /// # fn main() -> Result<(), Box<dyn std::error::Error>> {
+    /// # let alloc = Global;
+    /// # let mut primary: SlotMap<DefaultKey, u64> = SlotMap::new(alloc)?;
+    /// # let a = primary.insert(10)?;
+    /// # let b = primary.insert(20)?;
+    /// # let mut map: SecondaryMap<DefaultKey, u64> = SecondaryMap::new(alloc)?;
+    /// # map.insert(a, 1)?;
     /// if let secondary::Entry::Vacant(entry) = map.try_entry(b)? {
     ///     *entry.insert(5) = 6;
     /// }
     /// assert_eq!(map.get(b).copied(), Some(6));
+    /// # Ok(())
+    /// # }
     /// ```
     ///
     /// # Proved
@@ -289,6 +408,8 @@ impl<'a, K: Key, V> VacantEntry<'a, K, V> {
     /// ensures* writes_back { sem 𝓛 (entry_lends K.row V.row K.data_of (Vacant self.entry) result) }
     /// ensures value { result.now ≡ value }
     /// ```
+    ///
+    /// Words: [`entry_lends`](crate::words#entry_lends-of-slotmap_secondary-entry), [`IsSideInPlace`](crate::words#issideinplace).
     #[inline]
     pub fn insert(self, value: V) -> &'a mut V {
         let VacantEntry { map, key } = self;
@@ -300,10 +421,21 @@ impl<'a, K: Key, V> VacantEntry<'a, K, V> {
 impl<'a, K: Key, V> OccupiedEntry<'a, K, V> {
     /// Returns the key, in constant time.
     ///
-    /// ```ignore
+    /// ```
+    /// # use slotmap_proved::{DefaultKey, Global, Key};
+    /// # use slotmap_proved::fallible::{secondary, SecondaryMap, SlotMap};
+    /// # fn main() -> Result<(), Box<dyn std::error::Error>> {
+    /// # let alloc = Global;
+    /// # let mut primary: SlotMap<DefaultKey, u64> = SlotMap::new(alloc)?;
+    /// # let a = primary.insert(10)?;
+    /// # let b = primary.insert(20)?;
+    /// # let mut map: SecondaryMap<DefaultKey, u64> = SecondaryMap::new(alloc)?;
+    /// # map.insert(a, 1)?;
     /// if let secondary::Entry::Occupied(entry) = map.try_entry(a)? {
     ///     assert_eq!(entry.key(), a);
     /// }
+    /// # Ok(())
+    /// # }
     /// ```
     ///
     /// # Proved
@@ -311,6 +443,8 @@ impl<'a, K: Key, V> OccupiedEntry<'a, K, V> {
     /// ```text
     /// ensures { result ≡ side_entry_key (Occupied self.now) }
     /// ```
+    ///
+    /// Words: [`side_entry_key`](crate::words#side_entry_key).
     #[inline]
     pub fn key(&self) -> K {
         self.key
@@ -318,10 +452,21 @@ impl<'a, K: Key, V> OccupiedEntry<'a, K, V> {
 
     /// Returns a reference to the value, in constant time.
     ///
-    /// ```ignore
+    /// ```
+    /// # use slotmap_proved::{DefaultKey, Global, Key};
+    /// # use slotmap_proved::fallible::{secondary, SecondaryMap, SlotMap};
+    /// # fn main() -> Result<(), Box<dyn std::error::Error>> {
+    /// # let alloc = Global;
+    /// # let mut primary: SlotMap<DefaultKey, u64> = SlotMap::new(alloc)?;
+    /// # let a = primary.insert(10)?;
+    /// # let b = primary.insert(20)?;
+    /// # let mut map: SecondaryMap<DefaultKey, u64> = SecondaryMap::new(alloc)?;
+    /// # map.insert(a, 1)?;
     /// if let secondary::Entry::Occupied(entry) = map.try_entry(a)? {
     ///     assert_eq!(*entry.get(), 1);
     /// }
+    /// # Ok(())
+    /// # }
     /// ```
     ///
     /// # Proved
@@ -330,6 +475,8 @@ impl<'a, K: Key, V> OccupiedEntry<'a, K, V> {
     /// requires { IsSideInPlace K.data_of (Occupied self.now) }
     /// ensures { side_entry_value K.data_of (Occupied self.now) ≡ Some result.now }
     /// ```
+    ///
+    /// Words: [`IsSideInPlace`](crate::words#issideinplace), [`side_entry_value`](crate::words#side_entry_value).
     #[inline]
     pub fn get(&self) -> &V {
         self.map.get_unchecked(self.key)
@@ -337,11 +484,22 @@ impl<'a, K: Key, V> OccupiedEntry<'a, K, V> {
 
     /// Returns a mutable reference to the value, in constant time.
     ///
-    /// ```ignore
+    /// ```
+    /// # use slotmap_proved::{DefaultKey, Global, Key};
+    /// # use slotmap_proved::fallible::{secondary, SecondaryMap, SlotMap};
+    /// # fn main() -> Result<(), Box<dyn std::error::Error>> {
+    /// # let alloc = Global;
+    /// # let mut primary: SlotMap<DefaultKey, u64> = SlotMap::new(alloc)?;
+    /// # let a = primary.insert(10)?;
+    /// # let b = primary.insert(20)?;
+    /// # let mut map: SecondaryMap<DefaultKey, u64> = SecondaryMap::new(alloc)?;
+    /// # map.insert(a, 1)?;
     /// if let secondary::Entry::Occupied(mut entry) = map.try_entry(a)? {
     ///     *entry.get_mut() = 5;
     ///     assert_eq!(*entry.get(), 5);
     /// }
+    /// # Ok(())
+    /// # }
     /// ```
     ///
     /// # Proved
@@ -352,6 +510,8 @@ impl<'a, K: Key, V> OccupiedEntry<'a, K, V> {
     /// ensures value { side_entry_value K.data_of (Occupied self.old) ≡ Some result.now }
     /// ensures written { (w : V) → IsWritten K.data_of (Occupied self.old) w (Occupied (occupied_with K.data_of self.old w)) }
     /// ```
+    ///
+    /// Words: [`IsSideInPlace`](crate::words#issideinplace), [`IsWritten`](crate::words#iswritten-of-slotmap_secondary-entry), [`occupied_lends`](crate::words#occupied_lends-of-slotmap_secondary-entry), [`occupied_with`](crate::words#occupied_with-of-slotmap_secondary-entry), [`side_entry_value`](crate::words#side_entry_value).
     #[inline]
     pub fn get_mut(&mut self) -> &mut V {
         let key = self.key;
@@ -362,11 +522,22 @@ impl<'a, K: Key, V> OccupiedEntry<'a, K, V> {
     ///
     /// Takes constant time.
     ///
-    /// ```ignore
+    /// ```
+    /// # use slotmap_proved::{DefaultKey, Global, Key};
+    /// # use slotmap_proved::fallible::{secondary, SecondaryMap, SlotMap};
+    /// # fn main() -> Result<(), Box<dyn std::error::Error>> {
+    /// # let alloc = Global;
+    /// # let mut primary: SlotMap<DefaultKey, u64> = SlotMap::new(alloc)?;
+    /// # let a = primary.insert(10)?;
+    /// # let b = primary.insert(20)?;
+    /// # let mut map: SecondaryMap<DefaultKey, u64> = SecondaryMap::new(alloc)?;
+    /// # map.insert(a, 1)?;
     /// if let secondary::Entry::Occupied(entry) = map.try_entry(a)? {
     ///     *entry.into_mut() = 5;
     /// }
     /// assert_eq!(map.get(a).copied(), Some(5));
+    /// # Ok(())
+    /// # }
     /// ```
     ///
     /// # Proved
@@ -376,6 +547,8 @@ impl<'a, K: Key, V> OccupiedEntry<'a, K, V> {
     /// ensures* writes_back { sem 𝓛 (entry_lends K.row V.row K.data_of (Occupied self.entry) result) }
     /// ensures value { side_entry_value K.data_of (Occupied self.entry) ≡ Some result.now }
     /// ```
+    ///
+    /// Words: [`entry_lends`](crate::words#entry_lends-of-slotmap_secondary-entry), [`IsSideInPlace`](crate::words#issideinplace), [`side_entry_value`](crate::words#side_entry_value).
     #[inline]
     pub fn into_mut(self) -> &'a mut V {
         let OccupiedEntry { map, key } = self;
@@ -384,11 +557,22 @@ impl<'a, K: Key, V> OccupiedEntry<'a, K, V> {
 
     /// Sets the value and returns the one before, in constant time.
     ///
-    /// ```ignore
+    /// ```
+    /// # use slotmap_proved::{DefaultKey, Global, Key};
+    /// # use slotmap_proved::fallible::{secondary, SecondaryMap, SlotMap};
+    /// # fn main() -> Result<(), Box<dyn std::error::Error>> {
+    /// # let alloc = Global;
+    /// # let mut primary: SlotMap<DefaultKey, u64> = SlotMap::new(alloc)?;
+    /// # let a = primary.insert(10)?;
+    /// # let b = primary.insert(20)?;
+    /// # let mut map: SecondaryMap<DefaultKey, u64> = SecondaryMap::new(alloc)?;
+    /// # map.insert(a, 1)?;
     /// if let secondary::Entry::Occupied(mut entry) = map.try_entry(a)? {
     ///     assert_eq!(entry.insert(5), 1);
     /// }
     /// assert_eq!(map.get(a).copied(), Some(5));
+    /// # Ok(())
+    /// # }
     /// ```
     ///
     /// # Proved
@@ -398,6 +582,8 @@ impl<'a, K: Key, V> OccupiedEntry<'a, K, V> {
     /// ensures old { side_entry_value K.data_of (Occupied self.old) ≡ Some result }
     /// ensures written { IsWritten K.data_of (Occupied self.old) value (Occupied self.new) }
     /// ```
+    ///
+    /// Words: [`IsSideInPlace`](crate::words#issideinplace), [`IsWritten`](crate::words#iswritten-of-slotmap_secondary-entry), [`side_entry_value`](crate::words#side_entry_value).
     #[inline]
     pub fn insert(&mut self, value: V) -> V {
         self.map.replace_value(self.key, value)
@@ -405,11 +591,22 @@ impl<'a, K: Key, V> OccupiedEntry<'a, K, V> {
 
     /// Removes the key and returns it with its value, in constant time.
     ///
-    /// ```ignore
+    /// ```
+    /// # use slotmap_proved::{DefaultKey, Global, Key};
+    /// # use slotmap_proved::fallible::{secondary, SecondaryMap, SlotMap};
+    /// # fn main() -> Result<(), Box<dyn std::error::Error>> {
+    /// # let alloc = Global;
+    /// # let mut primary: SlotMap<DefaultKey, u64> = SlotMap::new(alloc)?;
+    /// # let a = primary.insert(10)?;
+    /// # let b = primary.insert(20)?;
+    /// # let mut map: SecondaryMap<DefaultKey, u64> = SecondaryMap::new(alloc)?;
+    /// # map.insert(a, 1)?;
     /// if let secondary::Entry::Occupied(entry) = map.try_entry(a)? {
     ///     assert_eq!(entry.remove_entry(), (a, 1));
     /// }
     /// assert!(!map.contains_key(a));
+    /// # Ok(())
+    /// # }
     /// ```
     ///
     /// # Proved
@@ -420,6 +617,8 @@ impl<'a, K: Key, V> OccupiedEntry<'a, K, V> {
     /// ensures value { side_entry_value K.data_of (Occupied self.entry) ≡ Some result.1 }
     /// ensures removes { self.exit.0.now ≡ entry_without K.data_of (Occupied self.entry) }
     /// ```
+    ///
+    /// Words: [`entry_without`](crate::words#entry_without-of-slotmap_secondary-entry), [`IsSideInPlace`](crate::words#issideinplace), [`side_entry_key`](crate::words#side_entry_key), [`side_entry_value`](crate::words#side_entry_value).
     #[inline]
     pub fn remove_entry(self) -> (K, V) {
         let OccupiedEntry { map, key } = self;
@@ -428,11 +627,22 @@ impl<'a, K: Key, V> OccupiedEntry<'a, K, V> {
 
     /// Removes the key and returns its value, in constant time.
     ///
-    /// ```ignore
+    /// ```
+    /// # use slotmap_proved::{DefaultKey, Global, Key};
+    /// # use slotmap_proved::fallible::{secondary, SecondaryMap, SlotMap};
+    /// # fn main() -> Result<(), Box<dyn std::error::Error>> {
+    /// # let alloc = Global;
+    /// # let mut primary: SlotMap<DefaultKey, u64> = SlotMap::new(alloc)?;
+    /// # let a = primary.insert(10)?;
+    /// # let b = primary.insert(20)?;
+    /// # let mut map: SecondaryMap<DefaultKey, u64> = SecondaryMap::new(alloc)?;
+    /// # map.insert(a, 1)?;
     /// if let secondary::Entry::Occupied(entry) = map.try_entry(a)? {
     ///     assert_eq!(entry.remove(), 1);
     /// }
     /// assert!(!map.contains_key(a));
+    /// # Ok(())
+    /// # }
     /// ```
     ///
     /// # Proved
@@ -442,6 +652,8 @@ impl<'a, K: Key, V> OccupiedEntry<'a, K, V> {
     /// ensures value { side_entry_value K.data_of (Occupied self.entry) ≡ Some result }
     /// ensures removes { self.exit.0.now ≡ entry_without K.data_of (Occupied self.entry) }
     /// ```
+    ///
+    /// Words: [`entry_without`](crate::words#entry_without-of-slotmap_secondary-entry), [`IsSideInPlace`](crate::words#issideinplace), [`side_entry_value`](crate::words#side_entry_value).
     #[inline]
     pub fn remove(self) -> V {
         self.remove_entry().1

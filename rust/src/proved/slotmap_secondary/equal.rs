@@ -13,11 +13,22 @@ impl<K: Key, V: PartialEq> PartialEq for SecondaryMap<K, V> {
     /// The numbers of slots and the capacities don't matter. Takes time linear in the number of
     /// slots of both maps, and stops at the first difference.
     ///
-    /// ```ignore
+    /// ```
+    /// # use slotmap_proved::{DefaultKey, Global, Key};
+    /// # use slotmap_proved::fallible::{SecondaryMap, SlotMap};
+    /// # fn main() -> Result<(), Box<dyn std::error::Error>> {
+    /// # let alloc = Global;
+    /// # let mut primary: SlotMap<DefaultKey, u64> = SlotMap::new(alloc)?;
+    /// # let a = primary.insert(10)?;
+    /// # let b = primary.insert(20)?;
+    /// # let mut map: SecondaryMap<DefaultKey, u64> = SecondaryMap::new(alloc)?;
+    /// # map.insert(a, 1)?;
     /// let copy = map.clone()?;
     /// assert!(copy == map);
     /// map.remove(a);
     /// assert!(copy != map);
+    /// # Ok(())
+    /// # }
     /// ```
     ///
     /// # Proved
@@ -26,6 +37,8 @@ impl<K: Key, V: PartialEq> PartialEq for SecondaryMap<K, V> {
     /// ensures value { result ≡ are_equal V.eq self.now.pairs other.now.pairs }
     /// ensures which { IsTrue result ↔ AreEqual V.eq self.now.pairs other.now.pairs }
     /// ```
+    ///
+    /// Words: [`are_equal`](crate::words#are_equal), [`AreEqual`](crate::words#areequal), [`pairs`](crate::words#pairs-of-slotmap_secondary-content).
     #[inline]
     fn eq(&self, other: &Self) -> bool {
         self.is_same(other)

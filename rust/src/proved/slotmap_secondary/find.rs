@@ -40,18 +40,32 @@ impl<K: Key, V> SecondaryMap<K, V> {
     ///
     /// Constant time; allocates nothing. Rust lacks this call.
     ///
-    /// ```ignore
+    /// ```
+    /// # use slotmap_proved::{DefaultKey, Global, Key};
+    /// # use slotmap_proved::fallible::{SecondaryMap, SlotMap};
+    /// # fn main() -> Result<(), Box<dyn std::error::Error>> {
+    /// # let alloc = Global;
+    /// # let mut primary: SlotMap<DefaultKey, u64> = SlotMap::new(alloc)?;
+    /// # let a = primary.insert(10)?;
+    /// # let b = primary.insert(20)?;
+    /// # let mut map: SecondaryMap<DefaultKey, u64> = SecondaryMap::new(alloc)?;
+    /// # map.insert(a, 1)?;
     /// assert_eq!(map.key_at(a.data().idx() as usize), Some(a));
     /// assert_eq!(map.key_at(b.data().idx() as usize), None);
+    /// # Ok(())
+    /// # }
     /// ```
     ///
     /// # Proved
     ///
     /// ```text
-    /// ensures there { IfSome result (λ key. (contains_key self.now.pairs (K.data_of key) ≡ true) × ((K.data_of key).index ≡ index)) }
+    /// ensures there { IfSome result (λ key.
+    ///     (contains_key self.now.pairs (K.data_of key) ≡ true) × ((K.data_of key).index ≡ index)) }
     /// ensures none { IfNone result (map.get self.now.pairs index ≡ None) }
     /// ensures valid { IsSideContent self.now }
     /// ```
+    ///
+    /// Words: [`contains_key`](crate::words#contains_key), [`index`](crate::words#index), [`IsSideContent`](crate::words#issidecontent), [`pairs`](crate::words#pairs-of-slotmap_secondary-content).
     #[inline]
     pub fn key_at(&self, index: usize) -> Option<K> {
         match self.slots.get(index)? {

@@ -101,13 +101,24 @@ impl<K: Key, V> SecondaryMap<K, V> {
     /// then is tested. Takes constant time if the slot exists. Else all slots up to it are made, and if
     /// the vector grows, all slots move.
     ///
-    /// ```ignore
+    /// ```
+    /// # use slotmap_proved::{DefaultKey, Global, Key};
+    /// # use slotmap_proved::fallible::{SecondaryMap, SlotMap};
+    /// # fn main() -> Result<(), Box<dyn std::error::Error>> {
+    /// # let alloc = Global;
+    /// # let mut primary: SlotMap<DefaultKey, u64> = SlotMap::new(alloc)?;
+    /// # let a = primary.insert(10)?;
+    /// # let b = primary.insert(20)?;
+    /// # let mut map: SecondaryMap<DefaultKey, u64> = SecondaryMap::new(alloc)?;
+    /// # map.insert(a, 1)?;
     /// assert_eq!(map.insert(a, 5)?, Some(1));
     /// primary.remove(a);
     /// let newer = primary.insert(30)?; // reuses the slot of a
     /// assert_eq!(map.insert(newer, 6)?, None);
     /// assert_eq!(map.insert(a, 7)?, None); // older: without effect
     /// assert_eq!(map[newer], 6);
+    /// # Ok(())
+    /// # }
     /// ```
     ///
     /// # Proved
@@ -116,12 +127,16 @@ impl<K: Key, V> SecondaryMap<K, V> {
     /// ensures value { IfOk result (λ before. before ≡ get self.old.pairs (K.data_of key)) }
     /// ensures ok { OnOk result (self.new.pairs ≡ put self.old.pairs (K.data_of key) value) }
     /// ensures places { OnOk result (Reaches self.old (K.data_of key) self.new) }
+    ///
     /// // Fails only if a slot has to be made; never at an index up to `capacity`.
     /// ensures err { IfErr result (λ error. RefusesPut self.old.pairs (K.data_of key) value error.0) }
     /// ensures unchanged { OnErr result (self.new ≡ self.old) }
     /// ensures room { (K.data_of key).index ≤ self.old.capacity → IsOk result }
+    ///
     /// ensures valid { IsSideContent self.new }
     /// ```
+    ///
+    /// Words: [`capacity`](crate::words#capacity-of-slotmap_secondary-content), [`get`](crate::words#get), [`index`](crate::words#index), [`IsSideContent`](crate::words#issidecontent), [`pairs`](crate::words#pairs-of-slotmap_secondary-content), [`put`](crate::words#put), [`Reaches`](crate::words#reaches), [`RefusesPut`](crate::words#refusesput).
     #[inline(always)]
     pub fn insert(&mut self, key: K, value: V) -> Result<Option<V>, PutError<V>> {
         let index = key.data().idx() as usize;
@@ -149,10 +164,21 @@ impl<K: Key, V> SecondaryMap<K, V> {
     ///
     /// Only `Placed` changes what the map holds. It costs what `insert` does. Rust lacks this call.
     ///
-    /// ```ignore
+    /// ```
+    /// # use slotmap_proved::{DefaultKey, Global, Key, OrPut};
+    /// # use slotmap_proved::fallible::{SecondaryMap, SlotMap};
+    /// # fn main() -> Result<(), Box<dyn std::error::Error>> {
+    /// # let alloc = Global;
+    /// # let mut primary: SlotMap<DefaultKey, u64> = SlotMap::new(alloc)?;
+    /// # let a = primary.insert(10)?;
+    /// # let b = primary.insert(20)?;
+    /// # let mut map: SecondaryMap<DefaultKey, u64> = SecondaryMap::new(alloc)?;
+    /// # map.insert(a, 1)?;
     /// assert!(matches!(map.or_put(b, 5), OrPut::Placed));
     /// assert!(matches!(map.or_put(b, 6), OrPut::Kept(6)));
     /// assert!(matches!(map.or_put(DefaultKey::null(), 7), OrPut::NoEntry(7)));
+    /// # Ok(())
+    /// # }
     /// ```
     ///
     /// # Proved
@@ -164,6 +190,8 @@ impl<K: Key, V> SecondaryMap<K, V> {
     /// ensures grows { self.old.capacity ≤ self.new.capacity }
     /// ensures valid { IsSideContent self.new }
     /// ```
+    ///
+    /// Words: [`capacity`](crate::words#capacity-of-slotmap_secondary-content), [`index`](crate::words#index), [`IsSideContent`](crate::words#issidecontent), [`OrPutReaches`](crate::words#orputreaches), [`OrPuts`](crate::words#orputs), [`pairs`](crate::words#pairs-of-slotmap_secondary-content).
     #[inline]
     pub fn or_put(&mut self, key: K, value: V) -> OrPut<V> {
         match self.find(key) {

@@ -31,11 +31,22 @@ pub struct Iter<'a, K, V> {
 impl<'a, K, V> Iter<'a, K, V> {
     /// Returns how many pairs are left, in constant time.
     ///
-    /// ```ignore
+    /// ```
+    /// # use slotmap_proved::{DefaultKey, Global, Key};
+    /// # use slotmap_proved::fallible::{SecondaryMap, SlotMap};
+    /// # fn main() -> Result<(), Box<dyn std::error::Error>> {
+    /// # let alloc = Global;
+    /// # let mut primary: SlotMap<DefaultKey, u64> = SlotMap::new(alloc)?;
+    /// # let a = primary.insert(10)?;
+    /// # let b = primary.insert(20)?;
+    /// # let mut map: SecondaryMap<DefaultKey, u64> = SecondaryMap::new(alloc)?;
+    /// # map.insert(a, 1)?;
     /// let mut pairs = map.iter();
     /// assert_eq!(pairs.len(), 1);
     /// assert_eq!(pairs.next(), Some((a, &1)));
     /// assert_eq!(pairs.len(), 0);
+    /// # Ok(())
+    /// # }
     /// ```
     ///
     /// # Proved
@@ -117,11 +128,22 @@ pub struct Keys<'a, K, V> {
 impl<'a, K, V> Keys<'a, K, V> {
     /// Returns how many keys are left, in constant time.
     ///
-    /// ```ignore
+    /// ```
+    /// # use slotmap_proved::{DefaultKey, Global, Key};
+    /// # use slotmap_proved::fallible::{SecondaryMap, SlotMap};
+    /// # fn main() -> Result<(), Box<dyn std::error::Error>> {
+    /// # let alloc = Global;
+    /// # let mut primary: SlotMap<DefaultKey, u64> = SlotMap::new(alloc)?;
+    /// # let a = primary.insert(10)?;
+    /// # let b = primary.insert(20)?;
+    /// # let mut map: SecondaryMap<DefaultKey, u64> = SecondaryMap::new(alloc)?;
+    /// # map.insert(a, 1)?;
     /// let mut keys = map.keys();
     /// assert_eq!(keys.len(), 1);
     /// assert_eq!(keys.next(), Some(a));
     /// assert_eq!(keys.len(), 0);
+    /// # Ok(())
+    /// # }
     /// ```
     ///
     /// # Proved
@@ -194,11 +216,22 @@ pub struct Values<'a, K, V> {
 impl<'a, K, V> Values<'a, K, V> {
     /// Returns how many values are left, in constant time.
     ///
-    /// ```ignore
+    /// ```
+    /// # use slotmap_proved::{DefaultKey, Global, Key};
+    /// # use slotmap_proved::fallible::{SecondaryMap, SlotMap};
+    /// # fn main() -> Result<(), Box<dyn std::error::Error>> {
+    /// # let alloc = Global;
+    /// # let mut primary: SlotMap<DefaultKey, u64> = SlotMap::new(alloc)?;
+    /// # let a = primary.insert(10)?;
+    /// # let b = primary.insert(20)?;
+    /// # let mut map: SecondaryMap<DefaultKey, u64> = SecondaryMap::new(alloc)?;
+    /// # map.insert(a, 1)?;
     /// let mut values = map.values();
     /// assert_eq!(values.len(), 1);
     /// assert_eq!(values.next().copied(), Some(1));
     /// assert_eq!(values.len(), 0);
+    /// # Ok(())
+    /// # }
     /// ```
     ///
     /// # Proved
@@ -272,12 +305,23 @@ impl<K: Key, V> SecondaryMap<K, V> {
     /// The call takes constant time. Yielding all pairs reads each slot at most once and allocates
     /// nothing. To change values call `retain` with a closure that writes and returns true.
     ///
-    /// ```ignore
+    /// ```
+    /// # use slotmap_proved::{DefaultKey, Global, Key};
+    /// # use slotmap_proved::fallible::{SecondaryMap, SlotMap};
+    /// # fn main() -> Result<(), Box<dyn std::error::Error>> {
+    /// # let alloc = Global;
+    /// # let mut primary: SlotMap<DefaultKey, u64> = SlotMap::new(alloc)?;
+    /// # let a = primary.insert(10)?;
+    /// # let b = primary.insert(20)?;
+    /// # let mut map: SecondaryMap<DefaultKey, u64> = SecondaryMap::new(alloc)?;
+    /// # map.insert(a, 1)?;
     /// map.insert(b, 2)?;
     /// let mut pairs = map.iter();
     /// assert_eq!(pairs.next(), Some((a, &1)));
     /// assert_eq!(pairs.next(), Some((b, &2)));
     /// assert_eq!(pairs.next(), None);
+    /// # Ok(())
+    /// # }
     /// ```
     ///
     /// # Proved
@@ -287,6 +331,8 @@ impl<K: Key, V> SecondaryMap<K, V> {
     /// ensures in_order { result ≡ map.entries (keyed self.now.pairs) }
     /// ensures valid { IsSideContent self.now }
     /// ```
+    ///
+    /// Words: [`IsListing`](crate::words#islisting), [`IsSideContent`](crate::words#issidecontent), [`keyed`](crate::words#keyed), [`pairs`](crate::words#pairs-of-slotmap_secondary-content).
     #[inline]
     pub fn iter(&self) -> Iter<'_, K, V> {
         Iter {
@@ -301,11 +347,22 @@ impl<K: Key, V> SecondaryMap<K, V> {
     ///
     /// It costs the same as [`SecondaryMap::iter`].
     ///
-    /// ```ignore
+    /// ```
+    /// # use slotmap_proved::{DefaultKey, Global, Key};
+    /// # use slotmap_proved::fallible::{SecondaryMap, SlotMap};
+    /// # fn main() -> Result<(), Box<dyn std::error::Error>> {
+    /// # let alloc = Global;
+    /// # let mut primary: SlotMap<DefaultKey, u64> = SlotMap::new(alloc)?;
+    /// # let a = primary.insert(10)?;
+    /// # let b = primary.insert(20)?;
+    /// # let mut map: SecondaryMap<DefaultKey, u64> = SecondaryMap::new(alloc)?;
+    /// # map.insert(a, 1)?;
     /// map.insert(b, 2)?;
     /// let mut keys = map.keys();
     /// assert_eq!(keys.next(), Some(a));
     /// assert_eq!(keys.next(), Some(b));
+    /// # Ok(())
+    /// # }
     /// ```
     ///
     /// # Proved
@@ -315,6 +372,8 @@ impl<K: Key, V> SecondaryMap<K, V> {
     /// ensures in_order { result ≡ map.keys (keyed self.now.pairs) }
     /// ensures valid { IsSideContent self.now }
     /// ```
+    ///
+    /// Words: [`IsKeyListing`](crate::words#iskeylisting), [`IsSideContent`](crate::words#issidecontent), [`keyed`](crate::words#keyed), [`pairs`](crate::words#pairs-of-slotmap_secondary-content).
     #[inline]
     pub fn keys(&self) -> Keys<'_, K, V> {
         Keys { pairs: self.iter() }
@@ -324,11 +383,22 @@ impl<K: Key, V> SecondaryMap<K, V> {
     ///
     /// It costs the same as [`SecondaryMap::iter`].
     ///
-    /// ```ignore
+    /// ```
+    /// # use slotmap_proved::{DefaultKey, Global, Key};
+    /// # use slotmap_proved::fallible::{SecondaryMap, SlotMap};
+    /// # fn main() -> Result<(), Box<dyn std::error::Error>> {
+    /// # let alloc = Global;
+    /// # let mut primary: SlotMap<DefaultKey, u64> = SlotMap::new(alloc)?;
+    /// # let a = primary.insert(10)?;
+    /// # let b = primary.insert(20)?;
+    /// # let mut map: SecondaryMap<DefaultKey, u64> = SecondaryMap::new(alloc)?;
+    /// # map.insert(a, 1)?;
     /// map.insert(b, 2)?;
     /// let mut values = map.values();
     /// assert_eq!(values.next().copied(), Some(1));
     /// assert_eq!(values.next().copied(), Some(2));
+    /// # Ok(())
+    /// # }
     /// ```
     ///
     /// # Proved
@@ -338,6 +408,8 @@ impl<K: Key, V> SecondaryMap<K, V> {
     /// ensures in_order { result ≡ map.values (keyed self.now.pairs) }
     /// ensures valid { IsSideContent self.now }
     /// ```
+    ///
+    /// Words: [`IsSideContent`](crate::words#issidecontent), [`IsValueListing`](crate::words#isvaluelisting), [`keyed`](crate::words#keyed), [`pairs`](crate::words#pairs-of-slotmap_secondary-content).
     #[inline]
     pub fn values(&self) -> Values<'_, K, V> {
         Values {

@@ -26,10 +26,21 @@ impl<K: Key, V> SecondaryMap<K, V> {
     /// has 4294967294 slots or more, writes a list that `from_slots` rejects. In Rust `Serialize`
     /// writes the same records.
     ///
-    /// ```ignore
+    /// ```
+    /// # use slotmap_proved::{DefaultKey, Global, Key, list};
+    /// # use slotmap_proved::fallible::{SecondaryMap, SlotMap};
+    /// # fn main() -> Result<(), Box<dyn std::error::Error>> {
+    /// # let alloc = Global;
+    /// # let mut primary: SlotMap<DefaultKey, u64> = SlotMap::new(alloc)?;
+    /// # let a = primary.insert(10)?;
+    /// # let b = primary.insert(20)?;
+    /// # let mut map: SecondaryMap<DefaultKey, u64> = SecondaryMap::new(alloc)?;
+    /// # map.insert(a, 1)?;
     /// let list = map.to_slots()?;
     /// let again: SecondaryMap<DefaultKey, u64> = SecondaryMap::from_slots(alloc, list)?;
     /// assert!(again == map);
+    /// # Ok(())
+    /// # }
     /// ```
     ///
     /// # Proved
@@ -37,12 +48,18 @@ impl<K: Key, V> SecondaryMap<K, V> {
     /// ```text
     /// // The list is that of a copy, and has a clone under each key.
     /// ensures writes { IfOk result (λ slots. WritesSideClones V.is_clone self.now slots.items) }
-    /// ensures contents { IfOk result (λ slots. (k : Key) → IsCloneOf V.is_clone (get self.now.pairs k) (map.get (start_live slots.items) k)) }
+    /// ensures contents { IfOk result (λ slots.
+    ///     (k : Key) → IsCloneOf V.is_clone (get self.now.pairs k) (map.get (start_live slots.items) k)) }
+    ///
     /// // Where clones equal their values, it is the map's own list.
     /// ensures writes_if_clones_equal { IfOk result (λ slots. ClonesEqual V.is_clone → WritesSide self.now slots.items) }
-    /// ensures contents_if_clones_equal { IfOk result (λ slots. ClonesEqual V.is_clone → start_live slots.items ≡ keyed self.now.pairs) }
+    /// ensures contents_if_clones_equal { IfOk result (λ slots.
+    ///     ClonesEqual V.is_clone → start_live slots.items ≡ keyed self.now.pairs) }
+    ///
     /// ensures valid { IsSideContent self.now }
     /// ```
+    ///
+    /// Words: [`ClonesEqual`](crate::words#clonesequal), [`get`](crate::words#get), [`IsCloneOf`](crate::words#iscloneof), [`IsSideContent`](crate::words#issidecontent), [`Key`](crate::words#key), [`keyed`](crate::words#keyed), [`pairs`](crate::words#pairs-of-slotmap_secondary-content), [`start_live`](crate::words#start_live), [`WritesSide`](crate::words#writesside), [`WritesSideClones`](crate::words#writessideclones).
     #[inline]
     pub fn to_slots(&self) -> Result<Vec<SlotRecord<V>>, OutOfMemory>
     where
@@ -72,11 +89,22 @@ impl<K: Key, V> SecondaryMap<K, V> {
     /// Takes time linear in the length of the list, in two passes. In Rust `Deserialize` reads such
     /// a list.
     ///
-    /// ```ignore
+    /// ```
+    /// # use slotmap_proved::{DefaultKey, Global, Key, list, SlotRecord};
+    /// # use slotmap_proved::fallible::{SecondaryMap, SlotMap};
+    /// # fn main() -> Result<(), Box<dyn std::error::Error>> {
+    /// # let alloc = Global;
+    /// # let mut primary: SlotMap<DefaultKey, u64> = SlotMap::new(alloc)?;
+    /// # let a = primary.insert(10)?;
+    /// # let b = primary.insert(20)?;
+    /// # let mut map: SecondaryMap<DefaultKey, u64> = SecondaryMap::new(alloc)?;
+    /// # map.insert(a, 1)?;
     /// let list = vec![SlotRecord { value: None, version: 0 },
-    ///     SlotRecord { value: Some(5), version: 1 }]?;
+    ///     SlotRecord { value: Some(5), version: 1 }].into();
     /// let read: SecondaryMap<DefaultKey, u64> = SecondaryMap::from_slots(alloc, list)?;
     /// assert_eq!(read.get(a).copied(), Some(5));
+    /// # Ok(())
+    /// # }
     /// ```
     ///
     /// # Proved
@@ -85,10 +113,13 @@ impl<K: Key, V> SecondaryMap<K, V> {
     /// ensures contents { IfOk result (λ made. keyed made.pairs ≡ start_live list.items) }
     /// ensures places { IfOk result (λ made. made.places ≡ length list.items) }
     /// ensures valid { IfOk result IsSideContent }
+    ///
     /// // When it fails: the first error that applies.
     /// ensures accepted { IsOk result → Accepts list.items side_list_limit }
     /// ensures err { IfErr result (RefusesStart list.items side_list_limit) }
     /// ```
+    ///
+    /// Words: [`Accepts`](crate::words#accepts), [`IsSideContent`](crate::words#issidecontent), [`keyed`](crate::words#keyed), [`pairs`](crate::words#pairs-of-slotmap_secondary-content), [`places`](crate::words#places-of-slotmap_secondary-content), [`RefusesStart`](crate::words#refusesstart), [`side_list_limit`](crate::words#side_list_limit), [`start_live`](crate::words#start_live).
     #[inline]
     pub fn from_slots(alloc: Global, list: Vec<SlotRecord<V>>) -> Result<Self, SlotsError> {
         check_slots(&list, SIDE_LIST_LIMIT)?;

@@ -12,7 +12,7 @@
 //! Each example comes after these lines:
 //!
 //! ```text
-//! let alloc = rt.alloc();
+//! let alloc = Global;
 //! let mut primary: SlotMap<DefaultKey, u64> = SlotMap::new(alloc)?;
 //! let a = primary.insert(10)?;
 //! let b = primary.insert(20)?;
@@ -65,13 +65,24 @@ use crate::rt::std::marker::PhantomData;
 /// It has a slot for each index from 0 to the largest one that a key was inserted at, or that had a
 /// vacant entry. For few keys of a large map, a sparse map needs less memory.
 ///
-/// ```ignore
+/// ```
+/// # use slotmap_proved::{DefaultKey, Global, Key};
+/// # use slotmap_proved::fallible::{SecondaryMap, SlotMap};
+/// # fn main() -> Result<(), Box<dyn std::error::Error>> {
+/// # let alloc = Global;
+/// # let mut primary: SlotMap<DefaultKey, u64> = SlotMap::new(alloc)?;
+/// # let a = primary.insert(10)?;
+/// # let b = primary.insert(20)?;
+/// # let mut map: SecondaryMap<DefaultKey, u64> = SecondaryMap::new(alloc)?;
+/// # map.insert(a, 1)?;
 /// map.insert(b, 2)?;
 /// assert_eq!(primary[a], 10);
 /// assert_eq!(map[a], 1);
 /// primary.remove(b);
 /// let next = primary.insert(30)?;
 /// assert!(map.get(next).is_none());
+/// # Ok(())
+/// # }
 /// ```
 pub struct SecondaryMap<K, V> {
     // The slot of index i is at position i. There is always one for index 0.
@@ -99,9 +110,20 @@ impl<K: Key, V> SecondaryMap<K, V> {
     /// Allocates the slot of index 0, and fails with `Memory` if the allocation fails. Rust's `new`
     /// aborts then. Takes constant time beside the allocation.
     ///
-    /// ```ignore
+    /// ```
+    /// # use slotmap_proved::{DefaultKey, Global, Key};
+    /// # use slotmap_proved::fallible::{SecondaryMap, SlotMap};
+    /// # fn main() -> Result<(), Box<dyn std::error::Error>> {
+    /// # let alloc = Global;
+    /// # let mut primary: SlotMap<DefaultKey, u64> = SlotMap::new(alloc)?;
+    /// # let a = primary.insert(10)?;
+    /// # let b = primary.insert(20)?;
+    /// # let mut map: SecondaryMap<DefaultKey, u64> = SecondaryMap::new(alloc)?;
+    /// # map.insert(a, 1)?;
     /// let empty: SecondaryMap<DefaultKey, u64> = SecondaryMap::new(alloc)?;
     /// assert!(empty.is_empty());
+    /// # Ok(())
+    /// # }
     /// ```
     ///
     /// # Proved
@@ -112,6 +134,8 @@ impl<K: Key, V> SecondaryMap<K, V> {
     /// ensures err { IfErr result (λ error. error ≡ ReserveError.Memory) }
     /// ensures valid { IfOk result IsSideContent }
     /// ```
+    ///
+    /// Words: [`IsSideContent`](crate::words#issidecontent), [`pairs`](crate::words#pairs-of-slotmap_secondary-content), [`places`](crate::words#places-of-slotmap_secondary-content).
     #[inline]
     pub fn new(alloc: Global) -> Result<Self, ReserveError> {
         SecondaryMap::with_capacity(alloc, 0)
@@ -122,9 +146,20 @@ impl<K: Key, V> SecondaryMap<K, V> {
     /// Fails with `TooGreat` if and only if `capacity` exceeds 4294967294, else with `Memory` if
     /// the allocation fails. Takes constant time beside the allocation.
     ///
-    /// ```ignore
+    /// ```
+    /// # use slotmap_proved::{DefaultKey, Global, Key};
+    /// # use slotmap_proved::fallible::{SecondaryMap, SlotMap};
+    /// # fn main() -> Result<(), Box<dyn std::error::Error>> {
+    /// # let alloc = Global;
+    /// # let mut primary: SlotMap<DefaultKey, u64> = SlotMap::new(alloc)?;
+    /// # let a = primary.insert(10)?;
+    /// # let b = primary.insert(20)?;
+    /// # let mut map: SecondaryMap<DefaultKey, u64> = SecondaryMap::new(alloc)?;
+    /// # map.insert(a, 1)?;
     /// let empty: SecondaryMap<DefaultKey, u64> = SecondaryMap::with_capacity(alloc, 100)?;
     /// assert!(empty.capacity() >= 100);
+    /// # Ok(())
+    /// # }
     /// ```
     ///
     /// # Proved
@@ -137,6 +172,8 @@ impl<K: Key, V> SecondaryMap<K, V> {
     /// ensures err { IfErr result (RefusesCapacity capacity) }
     /// ensures valid { IfOk result IsSideContent }
     /// ```
+    ///
+    /// Words: [`capacity`](crate::words#capacity-of-slotmap_secondary-content), [`IsSideContent`](crate::words#issidecontent), [`most`](crate::words#most), [`pairs`](crate::words#pairs-of-slotmap_secondary-content), [`places`](crate::words#places-of-slotmap_secondary-content), [`RefusesCapacity`](crate::words#refusescapacity).
     #[inline]
     pub fn with_capacity(alloc: Global, capacity: usize) -> Result<Self, ReserveError> {
         if capacity > MOST_INDEX {
@@ -159,10 +196,21 @@ impl<K: Key, V> SecondaryMap<K, V> {
 
     /// Returns the number of keys, in constant time.
     ///
-    /// ```ignore
+    /// ```
+    /// # use slotmap_proved::{DefaultKey, Global, Key};
+    /// # use slotmap_proved::fallible::{SecondaryMap, SlotMap};
+    /// # fn main() -> Result<(), Box<dyn std::error::Error>> {
+    /// # let alloc = Global;
+    /// # let mut primary: SlotMap<DefaultKey, u64> = SlotMap::new(alloc)?;
+    /// # let a = primary.insert(10)?;
+    /// # let b = primary.insert(20)?;
+    /// # let mut map: SecondaryMap<DefaultKey, u64> = SecondaryMap::new(alloc)?;
+    /// # map.insert(a, 1)?;
     /// assert_eq!(map.len(), 1);
     /// map.remove(a);
     /// assert_eq!(map.len(), 0);
+    /// # Ok(())
+    /// # }
     /// ```
     ///
     /// # Proved
@@ -171,6 +219,8 @@ impl<K: Key, V> SecondaryMap<K, V> {
     /// ensures value { result ≡ map.len self.now.pairs }
     /// ensures valid { IsSideContent self.now }
     /// ```
+    ///
+    /// Words: [`IsSideContent`](crate::words#issidecontent), [`pairs`](crate::words#pairs-of-slotmap_secondary-content).
     #[inline]
     pub fn len(&self) -> usize {
         self.len
@@ -178,10 +228,21 @@ impl<K: Key, V> SecondaryMap<K, V> {
 
     /// Returns whether the map has no key, in constant time.
     ///
-    /// ```ignore
+    /// ```
+    /// # use slotmap_proved::{DefaultKey, Global, Key};
+    /// # use slotmap_proved::fallible::{SecondaryMap, SlotMap};
+    /// # fn main() -> Result<(), Box<dyn std::error::Error>> {
+    /// # let alloc = Global;
+    /// # let mut primary: SlotMap<DefaultKey, u64> = SlotMap::new(alloc)?;
+    /// # let a = primary.insert(10)?;
+    /// # let b = primary.insert(20)?;
+    /// # let mut map: SecondaryMap<DefaultKey, u64> = SecondaryMap::new(alloc)?;
+    /// # map.insert(a, 1)?;
     /// assert!(!map.is_empty());
     /// map.remove(a);
     /// assert!(map.is_empty());
+    /// # Ok(())
+    /// # }
     /// ```
     ///
     /// # Proved
@@ -190,6 +251,8 @@ impl<K: Key, V> SecondaryMap<K, V> {
     /// ensures value { IsTrue result ↔ (map.len self.now.pairs ≡ 0) }
     /// ensures valid { IsSideContent self.now }
     /// ```
+    ///
+    /// Words: [`IsSideContent`](crate::words#issidecontent), [`pairs`](crate::words#pairs-of-slotmap_secondary-content).
     #[inline]
     pub fn is_empty(&self) -> bool {
         self.len() == 0
@@ -200,9 +263,20 @@ impl<K: Key, V> SecondaryMap<K, V> {
     /// An insert or an entry at an index up to this one never fails. Rust returns how many slots
     /// fit, without the one of index 0: the same number.
     ///
-    /// ```ignore
+    /// ```
+    /// # use slotmap_proved::{DefaultKey, Global, Key};
+    /// # use slotmap_proved::fallible::{SecondaryMap, SlotMap};
+    /// # fn main() -> Result<(), Box<dyn std::error::Error>> {
+    /// # let alloc = Global;
+    /// # let mut primary: SlotMap<DefaultKey, u64> = SlotMap::new(alloc)?;
+    /// # let a = primary.insert(10)?;
+    /// # let b = primary.insert(20)?;
+    /// # let mut map: SecondaryMap<DefaultKey, u64> = SecondaryMap::new(alloc)?;
+    /// # map.insert(a, 1)?;
     /// map.set_capacity(100)?;
     /// assert!(map.capacity() >= 100);
+    /// # Ok(())
+    /// # }
     /// ```
     ///
     /// # Proved
@@ -212,6 +286,8 @@ impl<K: Key, V> SecondaryMap<K, V> {
     /// ensures fits { map.len self.now.pairs ≤ result + 1 }
     /// ensures valid { IsSideContent self.now }
     /// ```
+    ///
+    /// Words: [`capacity`](crate::words#capacity-of-slotmap_secondary-content), [`IsSideContent`](crate::words#issidecontent), [`pairs`](crate::words#pairs-of-slotmap_secondary-content).
     #[inline]
     pub fn capacity(&self) -> usize {
         self.slots.capacity() - 1
@@ -224,10 +300,22 @@ impl<K: Key, V> SecondaryMap<K, V> {
     /// nothing; it never frees any. Takes time linear in the number of slots if they move, else
     /// constant time.
     ///
-    /// ```ignore
+    /// ```
+    /// # use slotmap_proved::{DefaultKey, Global, Key, KeyData};
+    /// # use slotmap_proved::fallible::{SecondaryMap, SlotMap};
+    /// # use slotmap_proved::runs::run;
+    /// # fn main() -> Result<(), Box<dyn std::error::Error>> {
+    /// # let alloc = Global;
+    /// # let mut primary: SlotMap<DefaultKey, u64> = SlotMap::new(alloc)?;
+    /// # let a = primary.insert(10)?;
+    /// # let b = primary.insert(20)?;
+    /// # let mut map: SecondaryMap<DefaultKey, u64> = SecondaryMap::new(alloc)?;
+    /// # map.insert(a, 1)?;
     /// map.set_capacity(100)?;
     /// let far = DefaultKey::from(KeyData::new(100, 1));
     /// assert!(map.insert(far, 7).is_ok()); // can't run out of memory
+    /// # Ok(())
+    /// # }
     /// ```
     ///
     /// # Proved
@@ -236,6 +324,8 @@ impl<K: Key, V> SecondaryMap<K, V> {
     /// ensures sets { SetsCapacity capacity self.old result self.new }
     /// ensures valid { IsSideContent self.new }
     /// ```
+    ///
+    /// Words: [`IsSideContent`](crate::words#issidecontent), [`SetsCapacity`](crate::words#setscapacity).
     #[inline]
     pub fn set_capacity(&mut self, capacity: usize) -> Result<(), ReserveError> {
         if capacity > MOST_INDEX {
@@ -249,10 +339,21 @@ impl<K: Key, V> SecondaryMap<K, V> {
     /// Does the same as [`SecondaryMap::set_capacity`], which returns a `Result` here too. It costs
     /// the same.
     ///
-    /// ```ignore
+    /// ```
+    /// # use slotmap_proved::{DefaultKey, Global, Key, ReserveError};
+    /// # use slotmap_proved::fallible::{SecondaryMap, SlotMap};
+    /// # fn main() -> Result<(), Box<dyn std::error::Error>> {
+    /// # let alloc = Global;
+    /// # let mut primary: SlotMap<DefaultKey, u64> = SlotMap::new(alloc)?;
+    /// # let a = primary.insert(10)?;
+    /// # let b = primary.insert(20)?;
+    /// # let mut map: SecondaryMap<DefaultKey, u64> = SecondaryMap::new(alloc)?;
+    /// # map.insert(a, 1)?;
     /// assert!(map.try_set_capacity(100).is_ok());
     /// let failed = map.try_set_capacity(4294967295);
     /// assert!(matches!(failed, Err(ReserveError::TooGreat)));
+    /// # Ok(())
+    /// # }
     /// ```
     ///
     /// # Proved
@@ -261,6 +362,8 @@ impl<K: Key, V> SecondaryMap<K, V> {
     /// ensures sets { SetsCapacity capacity self.old result self.new }
     /// ensures valid { IsSideContent self.new }
     /// ```
+    ///
+    /// Words: [`IsSideContent`](crate::words#issidecontent), [`SetsCapacity`](crate::words#setscapacity).
     #[inline]
     pub fn try_set_capacity(&mut self, capacity: usize) -> Result<(), ReserveError> {
         self.set_capacity(capacity)

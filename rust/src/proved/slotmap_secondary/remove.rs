@@ -14,9 +14,20 @@ impl<K: Key, V> SecondaryMap<K, V> {
     ///
     /// If it isn't, nothing changes. Takes constant time and allocates nothing. It frees nothing.
     ///
-    /// ```ignore
+    /// ```
+    /// # use slotmap_proved::{DefaultKey, Global, Key};
+    /// # use slotmap_proved::fallible::{SecondaryMap, SlotMap};
+    /// # fn main() -> Result<(), Box<dyn std::error::Error>> {
+    /// # let alloc = Global;
+    /// # let mut primary: SlotMap<DefaultKey, u64> = SlotMap::new(alloc)?;
+    /// # let a = primary.insert(10)?;
+    /// # let b = primary.insert(20)?;
+    /// # let mut map: SecondaryMap<DefaultKey, u64> = SecondaryMap::new(alloc)?;
+    /// # map.insert(a, 1)?;
     /// assert_eq!(map.remove(a), Some(1));
     /// assert_eq!(map.remove(a), None);
+    /// # Ok(())
+    /// # }
     /// ```
     ///
     /// # Proved
@@ -26,6 +37,8 @@ impl<K: Key, V> SecondaryMap<K, V> {
     /// ensures removes { self.new ≡ record self.old { pairs = remove self.old.pairs (K.data_of key) } }
     /// ensures valid { IsSideContent self.new }
     /// ```
+    ///
+    /// Words: [`get`](crate::words#get), [`IsSideContent`](crate::words#issidecontent), [`pairs`](crate::words#pairs-of-slotmap_secondary-content), [`remove`](crate::words#remove).
     #[inline]
     pub fn remove(&mut self, key: K) -> Option<V> {
         // `get` tests what kind of slot it is, and `take_live` then needs no test.

@@ -24,11 +24,22 @@ impl<K: Key, V> SecondaryMap<K, V> {
     /// replaces Rust's `iter_mut` and `values_mut`. The keys are visited by ascending index. Takes
     /// time linear in the number of slots, and allocates nothing.
     ///
-    /// ```ignore
+    /// ```
+    /// # use slotmap_proved::{DefaultKey, Global, Key};
+    /// # use slotmap_proved::fallible::{SecondaryMap, SlotMap};
+    /// # fn main() -> Result<(), Box<dyn std::error::Error>> {
+    /// # let alloc = Global;
+    /// # let mut primary: SlotMap<DefaultKey, u64> = SlotMap::new(alloc)?;
+    /// # let a = primary.insert(10)?;
+    /// # let b = primary.insert(20)?;
+    /// # let mut map: SecondaryMap<DefaultKey, u64> = SecondaryMap::new(alloc)?;
+    /// # map.insert(a, 1)?;
     /// map.insert(b, 2)?;
     /// map.retain(|_, value| *value % 2 == 0);
     /// assert!(!map.contains_key(a));
     /// assert!(map.contains_key(b));
+    /// # Ok(())
+    /// # }
     /// ```
     ///
     /// # Proved
@@ -41,6 +52,8 @@ impl<K: Key, V> SecondaryMap<K, V> {
     /// ensures keeps { self.new ≡ record self.old { pairs = self.new.pairs } }
     /// ensures valid { IsSideContent self.new }
     /// ```
+    ///
+    /// Words: [`CallableOnEach`](crate::words#callableoneach), [`IsSideContent`](crate::words#issidecontent), [`keyed`](crate::words#keyed), [`pairs`](crate::words#pairs-of-slotmap_secondary-content), [`RetainsBy`](crate::words#retainsby).
     #[inline]
     pub fn retain<F: FnMut(K, &mut V) -> bool>(&mut self, mut f: F)
     where

@@ -48,6 +48,8 @@ impl<P, L: Layout<P>> Slots<P, L> {
     /// ensures err { IfErr result (RefusesCapacity capacity) }
     /// ensures valid { IfOk result (IsContent true) }
     /// ```
+    ///
+    /// Words: [`IsContent`](crate::words#iscontent), [`IsNew`](crate::words#isnew), [`RefusesCapacity`](crate::words#refusescapacity), [`room`](crate::words#room-of-slotmap_core-content), [`stack`](crate::words#stack).
     #[inline]
     pub fn with_capacity(alloc: Global, capacity: usize) -> Result<Self, ReserveError> {
         if capacity > MOST_KEYS {
@@ -74,6 +76,8 @@ impl<P, L: Layout<P>> Slots<P, L> {
     /// ensures value { result ≡ map.len self.now.live }
     /// ensures valid { IsContent true self.now }
     /// ```
+    ///
+    /// Words: [`IsContent`](crate::words#iscontent), [`live`](crate::words#live).
     #[inline]
     pub fn len(&self) -> usize {
         (self.used_count - self.aside_count) as usize
@@ -86,6 +90,8 @@ impl<P, L: Layout<P>> Slots<P, L> {
     /// ```text
     /// ensures { IsContent true self.now }
     /// ```
+    ///
+    /// Words: [`IsContent`](crate::words#iscontent).
     #[inline(always)]
     pub fn note_valid(&self) {
         let _ = &self.used_count;
@@ -123,6 +129,8 @@ impl<P, L: Layout<P>> Slots<P, L> {
     /// ensures value { result ≡ self.now.capacity }
     /// ensures valid { IsContent true self.now }
     /// ```
+    ///
+    /// Words: [`IsContent`](crate::words#iscontent).
     #[inline]
     pub fn capacity(&self) -> usize {
         self.layout.capacity() - 1
@@ -136,6 +144,8 @@ impl<P, L: Layout<P>> Slots<P, L> {
     /// ensures value { result ≡ places self.now }
     /// ensures valid { IsContent true self.now }
     /// ```
+    ///
+    /// Words: [`IsContent`](crate::words#iscontent), [`places`](crate::words#places-of-slotmap_core-content).
     #[inline]
     pub fn place_count(&self) -> usize {
         self.layout.len() - 1
@@ -151,6 +161,8 @@ impl<P, L: Layout<P>> Slots<P, L> {
     /// ensures fits { result ≤ self.now.capacity }
     /// ensures valid { IsContent true self.now }
     /// ```
+    ///
+    /// Words: [`IsContent`](crate::words#iscontent), [`most`](crate::words#most), [`used`](crate::words#used).
     #[inline]
     fn used(&self) -> usize {
         self.used_count as usize
@@ -165,6 +177,8 @@ impl<P, L: Layout<P>> Slots<P, L> {
     /// ensures makes_room { MakesRoom true self.old additional (IsOk result) self.new }
     /// ensures err { IfErr result (RefusesCapacity (used self.old + additional)) }
     /// ```
+    ///
+    /// Words: [`MakesRoom`](crate::words#makesroom), [`RefusesCapacity`](crate::words#refusescapacity), [`used`](crate::words#used).
     #[inline(never)]
     pub fn reserve(&mut self, additional: usize) -> Result<(), ReserveError> {
         let used = self.used();
@@ -187,6 +201,8 @@ impl<P, L: Layout<P>> Slots<P, L> {
     /// ensures room { IsTrue result → 0 < self.now.room }
     /// ensures valid { IsContent true self.now }
     /// ```
+    ///
+    /// Words: [`IsContent`](crate::words#iscontent), [`room`](crate::words#room-of-slotmap_core-content).
     #[inline(always)]
     pub fn has_room(&self) -> bool {
         self.first_vacant != 0 || self.layout.len() < self.layout.capacity()
@@ -201,6 +217,8 @@ impl<P, L: Layout<P>> Slots<P, L> {
     /// ensures makes_room { MakesRoom true self.old 1 (IsOk result) self.new }
     /// ensures err { IfErr result (RefusesCapacity (used self.old + 1)) }
     /// ```
+    ///
+    /// Words: [`MakesRoom`](crate::words#makesroom), [`RefusesCapacity`](crate::words#refusescapacity), [`used`](crate::words#used).
     #[inline(always)]
     pub fn make_room(&mut self) -> Result<(), ReserveError> {
         if self.has_room() {

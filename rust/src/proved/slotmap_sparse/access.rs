@@ -15,9 +15,20 @@ impl<K: Key, V, S: BuildHasher> SparseSecondaryMap<K, V, S> {
     ///
     /// The null key never is, nor is a key at whose index the map holds another version.
     ///
-    /// ```ignore
+    /// ```
+    /// # use slotmap_proved::{DefaultKey, Global, Key};
+    /// # use slotmap_proved::fallible::{SlotMap, SparseSecondaryMap};
+    /// # fn main() -> Result<(), Box<dyn std::error::Error>> {
+    /// # let alloc = Global;
+    /// # let mut primary: SlotMap<DefaultKey, u64> = SlotMap::new(alloc)?;
+    /// # let a = primary.insert(10)?;
+    /// # let b = primary.insert(20)?;
+    /// # let mut map: SparseSecondaryMap<DefaultKey, u64> = SparseSecondaryMap::new(alloc)?;
+    /// # map.insert(a, 1)?;
     /// assert!(map.contains_key(a));
     /// assert!(!map.contains_key(b));
+    /// # Ok(())
+    /// # }
     /// ```
     ///
     /// # Proved
@@ -26,6 +37,8 @@ impl<K: Key, V, S: BuildHasher> SparseSecondaryMap<K, V, S> {
     /// ensures value { result ≡ contains_key self.now.pairs (K.data_of key) }
     /// ensures valid { IsSparseContent self.now }
     /// ```
+    ///
+    /// Words: [`contains_key`](crate::words#contains_key), [`IsSparseContent`](crate::words#issparsecontent), [`pairs`](crate::words#pairs-of-slotmap_sparse-content).
     #[inline]
     pub fn contains_key(&self, key: K) -> bool {
         self.get(key).is_some()
@@ -35,9 +48,20 @@ impl<K: Key, V, S: BuildHasher> SparseSecondaryMap<K, V, S> {
     ///
     /// Takes constant time.
     ///
-    /// ```ignore
+    /// ```
+    /// # use slotmap_proved::{DefaultKey, Global, Key};
+    /// # use slotmap_proved::fallible::{SlotMap, SparseSecondaryMap};
+    /// # fn main() -> Result<(), Box<dyn std::error::Error>> {
+    /// # let alloc = Global;
+    /// # let mut primary: SlotMap<DefaultKey, u64> = SlotMap::new(alloc)?;
+    /// # let a = primary.insert(10)?;
+    /// # let b = primary.insert(20)?;
+    /// # let mut map: SparseSecondaryMap<DefaultKey, u64> = SparseSecondaryMap::new(alloc)?;
+    /// # map.insert(a, 1)?;
     /// assert_eq!(map.get(a).copied(), Some(1));
     /// assert_eq!(map.get(b), None);
+    /// # Ok(())
+    /// # }
     /// ```
     ///
     /// # Proved
@@ -46,6 +70,8 @@ impl<K: Key, V, S: BuildHasher> SparseSecondaryMap<K, V, S> {
     /// ensures value { option_copied result ≡ get self.now.pairs (K.data_of key) }
     /// ensures valid { IsSparseContent self.now }
     /// ```
+    ///
+    /// Words: [`get`](crate::words#get), [`IsSparseContent`](crate::words#issparsecontent), [`pairs`](crate::words#pairs-of-slotmap_sparse-content).
     #[inline]
     pub fn get(&self, key: K) -> Option<&V> {
         match self.slot(key) {
@@ -65,9 +91,20 @@ impl<K: Key, V, S: BuildHasher> SparseSecondaryMap<K, V, S> {
     /// The caller has to prove that the key is in the map. So the call is safe, where Rust's is
     /// `unsafe`. It looks the key up, as Rust's does. Takes constant time.
     ///
-    /// ```ignore
+    /// ```
+    /// # use slotmap_proved::{DefaultKey, Global, Key};
+    /// # use slotmap_proved::fallible::{SlotMap, SparseSecondaryMap};
+    /// # fn main() -> Result<(), Box<dyn std::error::Error>> {
+    /// # let alloc = Global;
+    /// # let mut primary: SlotMap<DefaultKey, u64> = SlotMap::new(alloc)?;
+    /// # let a = primary.insert(10)?;
+    /// # let b = primary.insert(20)?;
+    /// # let mut map: SparseSecondaryMap<DefaultKey, u64> = SparseSecondaryMap::new(alloc)?;
+    /// # map.insert(a, 1)?;
     /// map.insert(b, 2)?;
     /// assert_eq!(*map.get_unchecked(b), 2);
+    /// # Ok(())
+    /// # }
     /// ```
     ///
     /// # Proved
@@ -77,6 +114,8 @@ impl<K: Key, V, S: BuildHasher> SparseSecondaryMap<K, V, S> {
     /// ensures value { get self.now.pairs (K.data_of key) ≡ Some result.now }
     /// ensures valid { IsSparseContent self.now }
     /// ```
+    ///
+    /// Words: [`contains_key`](crate::words#contains_key), [`get`](crate::words#get), [`IsSparseContent`](crate::words#issparsecontent), [`pairs`](crate::words#pairs-of-slotmap_sparse-content).
     #[inline]
     pub fn get_unchecked(&self, key: K) -> &V {
         assert!(self.contains_key(key), "the map holds no value under the key");
@@ -88,11 +127,22 @@ impl<K: Key, V, S: BuildHasher> SparseSecondaryMap<K, V, S> {
     /// Once the reference ends, the key has the last value written through it, and all else is as
     /// before. Takes constant time.
     ///
-    /// ```ignore
+    /// ```
+    /// # use slotmap_proved::{DefaultKey, Global, Key};
+    /// # use slotmap_proved::fallible::{SlotMap, SparseSecondaryMap};
+    /// # fn main() -> Result<(), Box<dyn std::error::Error>> {
+    /// # let alloc = Global;
+    /// # let mut primary: SlotMap<DefaultKey, u64> = SlotMap::new(alloc)?;
+    /// # let a = primary.insert(10)?;
+    /// # let b = primary.insert(20)?;
+    /// # let mut map: SparseSecondaryMap<DefaultKey, u64> = SparseSecondaryMap::new(alloc)?;
+    /// # map.insert(a, 1)?;
     /// if let Some(value) = map.get_mut(a) {
     ///     *value = 8;
     /// }
     /// assert_eq!(map.get(a).copied(), Some(8));
+    /// # Ok(())
+    /// # }
     /// ```
     ///
     /// # Proved
@@ -102,6 +152,8 @@ impl<K: Key, V, S: BuildHasher> SparseSecondaryMap<K, V, S> {
     /// ensures value { option_copied_mut result ≡ get self.old.pairs (K.data_of key) }
     /// ensures valid { IsSparseContent self.old }
     /// ```
+    ///
+    /// Words: [`get`](crate::words#get), [`IsSparseContent`](crate::words#issparsecontent), [`lends_get`](crate::words#lends_get-of-slotmap_sparse-lends), [`pairs`](crate::words#pairs-of-slotmap_sparse-content).
     #[inline]
     pub fn get_mut(&mut self, key: K) -> Option<&mut V> {
         let key = key.data();
@@ -119,9 +171,20 @@ impl<K: Key, V, S: BuildHasher> SparseSecondaryMap<K, V, S> {
     /// The caller has to prove that the key is in the map. So the call is safe, where Rust's is
     /// `unsafe`. It looks the key up, as Rust's does. Takes constant time.
     ///
-    /// ```ignore
+    /// ```
+    /// # use slotmap_proved::{DefaultKey, Global, Key};
+    /// # use slotmap_proved::fallible::{SlotMap, SparseSecondaryMap};
+    /// # fn main() -> Result<(), Box<dyn std::error::Error>> {
+    /// # let alloc = Global;
+    /// # let mut primary: SlotMap<DefaultKey, u64> = SlotMap::new(alloc)?;
+    /// # let a = primary.insert(10)?;
+    /// # let b = primary.insert(20)?;
+    /// # let mut map: SparseSecondaryMap<DefaultKey, u64> = SparseSecondaryMap::new(alloc)?;
+    /// # map.insert(a, 1)?;
     /// *map.get_unchecked_mut(a) = 8;
     /// assert_eq!(map.get(a).copied(), Some(8));
+    /// # Ok(())
+    /// # }
     /// ```
     ///
     /// # Proved
@@ -132,6 +195,8 @@ impl<K: Key, V, S: BuildHasher> SparseSecondaryMap<K, V, S> {
     /// ensures value { get self.old.pairs (K.data_of key) ≡ Some result.now }
     /// ensures valid { IsSparseContent self.old }
     /// ```
+    ///
+    /// Words: [`contains_key`](crate::words#contains_key), [`get`](crate::words#get), [`IsSparseContent`](crate::words#issparsecontent), [`lends_value`](crate::words#lends_value-of-slotmap_sparse-lends), [`pairs`](crate::words#pairs-of-slotmap_sparse-content).
     #[inline]
     pub fn get_unchecked_mut(&mut self, key: K) -> &mut V {
         assert!(self.contains_key(key), "the map holds no value under the key");
@@ -147,22 +212,22 @@ impl<K: Key, V, S: BuildHasher> SparseSecondaryMap<K, V, S> {
     /// It allocates nothing. It looks up each key, and compares each with each; so its time doesn't
     /// depend on the size of the map. Rust's `get_disjoint_mut` returns mutable references instead.
     ///
-    /// ```ignore
+    /// ```
+    /// # use slotmap_proved::{DefaultKey, Global, Key};
+    /// # use slotmap_proved::fallible::{SlotMap, SparseSecondaryMap};
+    /// # fn main() -> Result<(), Box<dyn std::error::Error>> {
+    /// # let alloc = Global;
+    /// # let mut primary: SlotMap<DefaultKey, u64> = SlotMap::new(alloc)?;
+    /// # let a = primary.insert(10)?;
+    /// # let b = primary.insert(20)?;
+    /// # let mut map: SparseSecondaryMap<DefaultKey, u64> = SparseSecondaryMap::new(alloc)?;
+    /// # map.insert(a, 1)?;
     /// map.insert(b, 2)?;
-    /// assert_eq!(map.replace_disjoint([a, b], [3, 4])?, [1, 2]);
+    /// assert_eq!(map.replace_disjoint([a, b], [3, 4]).unwrap(), [1, 2]);
     /// assert!(map.replace_disjoint([a, a], [5, 6]).is_err());
     /// assert_eq!((map[a], map[b]), (3, 4));
-    /// ```
-    ///
-    /// # Proved
-    ///
-    /// ```text
-    /// ensures which { IsOk result ↔ CanReplace get self.old.pairs (map_list K.data_of keys) }
-    /// ensures value { IfOk result (AreValuesOf get self.old.pairs (map_list K.data_of keys)) }
-    /// ensures ok { OnOk result (self.new ≡ record self.old { pairs = with_values bind self.old.pairs (map_list K.data_of keys) values; }) }
-    /// ensures err { IfErr result (λ back. back ≡ values) }
-    /// ensures unchanged { OnErr result (self.new ≡ self.old) }
-    /// ensures valid { IsSparseContent self.new }
+    /// # Ok(())
+    /// # }
     /// ```
     #[inline]
     pub fn replace_disjoint<const N: usize>(
@@ -207,9 +272,20 @@ impl<K: Key, V, S: BuildHasher> Index<K> for SparseSecondaryMap<K, V, S> {
     /// The caller has to prove that the key is in the map; Rust panics if it isn't. Takes constant
     /// time.
     ///
-    /// ```ignore
+    /// ```
+    /// # use slotmap_proved::{DefaultKey, Global, Key};
+    /// # use slotmap_proved::fallible::{SlotMap, SparseSecondaryMap};
+    /// # fn main() -> Result<(), Box<dyn std::error::Error>> {
+    /// # let alloc = Global;
+    /// # let mut primary: SlotMap<DefaultKey, u64> = SlotMap::new(alloc)?;
+    /// # let a = primary.insert(10)?;
+    /// # let b = primary.insert(20)?;
+    /// # let mut map: SparseSecondaryMap<DefaultKey, u64> = SparseSecondaryMap::new(alloc)?;
+    /// # map.insert(a, 1)?;
     /// map.insert(b, 2)?;
     /// assert_eq!((map[a], map[b]), (1, 2));
+    /// # Ok(())
+    /// # }
     /// ```
     #[inline]
     fn index(&self, key: K) -> &V {
@@ -224,9 +300,20 @@ impl<K: Key, V, S: BuildHasher> IndexMut<K> for SparseSecondaryMap<K, V, S> {
     /// The caller has to prove that the key is in the map; Rust panics if it isn't. Takes constant
     /// time.
     ///
-    /// ```ignore
+    /// ```
+    /// # use slotmap_proved::{DefaultKey, Global, Key};
+    /// # use slotmap_proved::fallible::{SlotMap, SparseSecondaryMap};
+    /// # fn main() -> Result<(), Box<dyn std::error::Error>> {
+    /// # let alloc = Global;
+    /// # let mut primary: SlotMap<DefaultKey, u64> = SlotMap::new(alloc)?;
+    /// # let a = primary.insert(10)?;
+    /// # let b = primary.insert(20)?;
+    /// # let mut map: SparseSecondaryMap<DefaultKey, u64> = SparseSecondaryMap::new(alloc)?;
+    /// # map.insert(a, 1)?;
     /// map[a] = 8;
     /// assert_eq!(map[a], 8);
+    /// # Ok(())
+    /// # }
     /// ```
     ///
     /// # Proved
@@ -237,6 +324,8 @@ impl<K: Key, V, S: BuildHasher> IndexMut<K> for SparseSecondaryMap<K, V, S> {
     /// ensures value { get self.old.pairs (K.data_of key) ≡ Some result.now }
     /// ensures valid { IsSparseContent self.old }
     /// ```
+    ///
+    /// Words: [`contains_key`](crate::words#contains_key), [`get`](crate::words#get), [`IsSparseContent`](crate::words#issparsecontent), [`lends_value`](crate::words#lends_value-of-slotmap_sparse-lends), [`pairs`](crate::words#pairs-of-slotmap_sparse-content).
     #[inline]
     fn index_mut(&mut self, key: K) -> &mut V {
         assert!(self.contains_key(key), "the map holds no value under the key");

@@ -13,9 +13,20 @@ impl<K: Key, V, S: BuildHasher> SparseSecondaryMap<K, V, S> {
     ///
     /// Keeps its memory. Takes time linear in the capacity.
     ///
-    /// ```ignore
+    /// ```
+    /// # use slotmap_proved::{DefaultKey, Global, Key};
+    /// # use slotmap_proved::fallible::{SlotMap, SparseSecondaryMap};
+    /// # fn main() -> Result<(), Box<dyn std::error::Error>> {
+    /// # let alloc = Global;
+    /// # let mut primary: SlotMap<DefaultKey, u64> = SlotMap::new(alloc)?;
+    /// # let a = primary.insert(10)?;
+    /// # let b = primary.insert(20)?;
+    /// # let mut map: SparseSecondaryMap<DefaultKey, u64> = SparseSecondaryMap::new(alloc)?;
+    /// # map.insert(a, 1)?;
     /// map.clear();
     /// assert!(map.is_empty());
+    /// # Ok(())
+    /// # }
     /// ```
     ///
     /// # Proved
@@ -25,6 +36,8 @@ impl<K: Key, V, S: BuildHasher> SparseSecondaryMap<K, V, S> {
     /// ensures capacity { self.old.capacity ≤ self.new.capacity }
     /// ensures valid { IsSparseContent self.new }
     /// ```
+    ///
+    /// Words: [`capacity`](crate::words#capacity-of-slotmap_sparse-content), [`IsSparseContent`](crate::words#issparsecontent), [`pairs`](crate::words#pairs-of-slotmap_sparse-content).
     #[inline]
     pub fn clear(&mut self) {
         self.slots.clear();

@@ -65,11 +65,22 @@ impl<K: Key, V, S: BuildHasher> SparseSecondaryMap<K, V, S> {
     /// map is empty. The map keeps its memory. Each step takes constant time. Dropping it
     /// takes time linear in the capacity.
     ///
-    /// ```ignore
+    /// ```
+    /// # use slotmap_proved::{DefaultKey, Global, Key};
+    /// # use slotmap_proved::fallible::{SlotMap, SparseSecondaryMap};
+    /// # fn main() -> Result<(), Box<dyn std::error::Error>> {
+    /// # let alloc = Global;
+    /// # let mut primary: SlotMap<DefaultKey, u64> = SlotMap::new(alloc)?;
+    /// # let a = primary.insert(10)?;
+    /// # let b = primary.insert(20)?;
+    /// # let mut map: SparseSecondaryMap<DefaultKey, u64> = SparseSecondaryMap::new(alloc)?;
+    /// # map.insert(a, 1)?;
     /// for (key, value) in map.drain() {
     ///     assert_eq!((key, value), (a, 1));
     /// }
     /// assert!(map.is_empty());
+    /// # Ok(())
+    /// # }
     /// ```
     ///
     /// # Proved
@@ -77,11 +88,15 @@ impl<K: Key, V, S: BuildHasher> SparseSecondaryMap<K, V, S> {
     /// ```text
     /// ensures map { (sparse_drain_loan result).now ≡ self.old }
     /// ensures same_reference { (sparse_drain_loan result).ghost_name ≡ self.entry.ghost_name }
+    ///
     /// // Laws of the steps, for callers that go on with the iterator.
     /// ensures stays { KeepsAlong (SparseDrainSteps K.data_of) DrainKeeps result }
     /// ensures lists { ListsAlong K.data_of (λ d. keyed (sparse_drain_loan d).now.pairs) (SparseDrainSteps K.data_of) result }
+    ///
     /// ensures valid { IsSparseContent self.old }
     /// ```
+    ///
+    /// Words: [`DrainKeeps`](crate::words#drainkeeps), [`IsSparseContent`](crate::words#issparsecontent), [`KeepsAlong`](crate::words#keepsalong), [`keyed`](crate::words#keyed), [`ListsAlong`](crate::words#listsalong), [`pairs`](crate::words#pairs-of-slotmap_sparse-content), [`sparse_drain_loan`](crate::words#sparse_drain_loan), [`SparseDrainSteps`](crate::words#sparsedrainsteps).
     #[inline]
     pub fn drain(&mut self) -> Drain<'_, K, V, S> {
         self.note_valid();

@@ -48,12 +48,23 @@ impl<K: Key, V, S: BuildHasher> SparseSecondaryMap<K, V, S> {
     /// If there is no entry, the map is unchanged. This is only tested. If a proof needs it, call
     /// `try_entry`.
     ///
-    /// ```ignore
+    /// ```
+    /// # use slotmap_proved::{DefaultKey, Global, Key};
+    /// # use slotmap_proved::fallible::{SlotMap, SparseSecondaryMap};
+    /// # fn main() -> Result<(), Box<dyn std::error::Error>> {
+    /// # let alloc = Global;
+    /// # let mut primary: SlotMap<DefaultKey, u64> = SlotMap::new(alloc)?;
+    /// # let a = primary.insert(10)?;
+    /// # let b = primary.insert(20)?;
+    /// # let mut map: SparseSecondaryMap<DefaultKey, u64> = SparseSecondaryMap::new(alloc)?;
+    /// # map.insert(a, 1)?;
     /// if let Some(entry) = map.entry(b)? {
     ///     entry.or_insert(5)?;
     /// }
     /// assert_eq!(map.get(b).copied(), Some(5));
     /// assert!(map.entry(DefaultKey::null())?.is_none());
+    /// # Ok(())
+    /// # }
     /// ```
     ///
     /// # Proved
@@ -64,6 +75,8 @@ impl<K: Key, V, S: BuildHasher> SparseSecondaryMap<K, V, S> {
     /// ensures ok { IfEntry result (Enters K.data_of self.entry key) }
     /// ensures valid { IsSparseContent self.old }
     /// ```
+    ///
+    /// Words: [`Enters`](crate::words#enters-of-slotmap_sparse-entry), [`IfEntry`](crate::words#ifentry-of-slotmap_sparse-entry), [`IsEntryOf`](crate::words#isentryof-of-slotmap_sparse-entry), [`IsSparseContent`](crate::words#issparsecontent), [`pairs`](crate::words#pairs-of-slotmap_sparse-content).
     #[inline]
     pub fn entry(&mut self, key: K) -> Result<Option<Entry<'_, K, V, S>>, OutOfMemory> {
         match self.try_entry(key) {
@@ -77,10 +90,21 @@ impl<K: Key, V, S: BuildHasher> SparseSecondaryMap<K, V, S> {
     /// Then the map is unchanged. It never fails with `Memory`. Apart from that it does the same as
     /// `entry`, at the same cost. Rust lacks this call.
     ///
-    /// ```ignore
+    /// ```
+    /// # use slotmap_proved::{DefaultKey, Global, Key, NoEntry};
+    /// # use slotmap_proved::fallible::{SlotMap, SparseSecondaryMap};
+    /// # fn main() -> Result<(), Box<dyn std::error::Error>> {
+    /// # let alloc = Global;
+    /// # let mut primary: SlotMap<DefaultKey, u64> = SlotMap::new(alloc)?;
+    /// # let a = primary.insert(10)?;
+    /// # let b = primary.insert(20)?;
+    /// # let mut map: SparseSecondaryMap<DefaultKey, u64> = SparseSecondaryMap::new(alloc)?;
+    /// # map.insert(a, 1)?;
     /// *map.try_entry(a)?.or_insert(0)? = 5;
     /// assert_eq!(map.get(a).copied(), Some(5));
     /// assert!(matches!(map.try_entry(DefaultKey::null()), Err(NoEntry::Older)));
+    /// # Ok(())
+    /// # }
     /// ```
     ///
     /// # Proved
@@ -88,10 +112,13 @@ impl<K: Key, V, S: BuildHasher> SparseSecondaryMap<K, V, S> {
     /// ```text
     /// ensures which { IfOk result (λ e. IsEntryOf K.data_of self.old.pairs (K.data_of key) (Some e)) }
     /// ensures ok { IfOk result (Enters K.data_of self.entry key) }
+    ///
     /// ensures err { IfErr result (λ error. (error ≡ no_entry.Older) × (entry self.old.pairs (K.data_of key) ≡ no_entry)) }
     /// ensures* unchanged { sem 𝓛 (rests_if_err K.row V.row S.row S.Hasher.row S.BuildHasher S.Hasher.Hasher self.entry result) }
     /// ensures valid { IsSparseContent self.old }
     /// ```
+    ///
+    /// Words: [`Enters`](crate::words#enters-of-slotmap_sparse-entry), [`entry`](crate::words#entry-of-slotmap_core-secondary), [`IsEntryOf`](crate::words#isentryof-of-slotmap_sparse-entry), [`IsSparseContent`](crate::words#issparsecontent), [`no_entry`](crate::words#no_entry), [`pairs`](crate::words#pairs-of-slotmap_sparse-content), [`rests_if_err`](crate::words#rests_if_err-of-slotmap_sparse-entry).
     #[inline]
     pub fn try_entry(&mut self, key: K) -> Result<Entry<'_, K, V, S>, NoEntry> {
         match self.find(key) {
@@ -108,9 +135,20 @@ impl<K: Key, V, S: BuildHasher> SparseSecondaryMap<K, V, S> {
 impl<'a, K: Key, V, S: BuildHasher> Entry<'a, K, V, S> {
     /// Returns the key, in constant time.
     ///
-    /// ```ignore
+    /// ```
+    /// # use slotmap_proved::{DefaultKey, Global, Key};
+    /// # use slotmap_proved::fallible::{SlotMap, SparseSecondaryMap};
+    /// # fn main() -> Result<(), Box<dyn std::error::Error>> {
+    /// # let alloc = Global;
+    /// # let mut primary: SlotMap<DefaultKey, u64> = SlotMap::new(alloc)?;
+    /// # let a = primary.insert(10)?;
+    /// # let b = primary.insert(20)?;
+    /// # let mut map: SparseSecondaryMap<DefaultKey, u64> = SparseSecondaryMap::new(alloc)?;
+    /// # map.insert(a, 1)?;
     /// let entry = map.try_entry(b)?;
     /// assert_eq!(entry.key(), b);
+    /// # Ok(())
+    /// # }
     /// ```
     ///
     /// # Proved
@@ -118,6 +156,8 @@ impl<'a, K: Key, V, S: BuildHasher> Entry<'a, K, V, S> {
     /// ```text
     /// ensures { result ≡ sparse_entry_key self.now }
     /// ```
+    ///
+    /// Words: [`sparse_entry_key`](crate::words#sparse_entry_key).
     #[inline]
     pub fn key(&self) -> K {
         match self {
@@ -131,9 +171,20 @@ impl<'a, K: Key, V, S: BuildHasher> Entry<'a, K, V, S> {
     /// If the key has no value, `f` isn't called. The caller has to prove that `f` may be called on
     /// the value that the key has, and on no other. Takes constant time beside `f`.
     ///
-    /// ```ignore
+    /// ```
+    /// # use slotmap_proved::{DefaultKey, Global, Key};
+    /// # use slotmap_proved::fallible::{SlotMap, SparseSecondaryMap};
+    /// # fn main() -> Result<(), Box<dyn std::error::Error>> {
+    /// # let alloc = Global;
+    /// # let mut primary: SlotMap<DefaultKey, u64> = SlotMap::new(alloc)?;
+    /// # let a = primary.insert(10)?;
+    /// # let b = primary.insert(20)?;
+    /// # let mut map: SparseSecondaryMap<DefaultKey, u64> = SparseSecondaryMap::new(alloc)?;
+    /// # map.insert(a, 1)?;
     /// let changed = map.try_entry(a)?.and_modify(|value| *value = 5);
     /// assert_eq!(*changed.or_insert(0)?, 5);
+    /// # Ok(())
+    /// # }
     /// ```
     ///
     /// # Proved
@@ -149,6 +200,8 @@ impl<'a, K: Key, V, S: BuildHasher> Entry<'a, K, V, S> {
     /// ensures same_removal { entry_without K.data_of result ≡ entry_without K.data_of self.entry }
     /// ensures value { ModifiesValue F.FnOnce f (sparse_entry_value K.data_of self.entry) (sparse_entry_value K.data_of result) }
     /// ```
+    ///
+    /// Words: [`entry_lender`](crate::words#entry_lender-of-slotmap_sparse-entry), [`entry_without`](crate::words#entry_without-of-slotmap_sparse-entry), [`IsSparseInPlace`](crate::words#issparseinplace), [`sparse_entry_key`](crate::words#sparse_entry_key), [`sparse_entry_value`](crate::words#sparse_entry_value), [`sparse_entry_with`](crate::words#sparse_entry_with).
     #[inline]
     pub fn and_modify<F: FnOnce(&mut V)>(self, f: F) -> Entry<'a, K, V, S>
     where
@@ -171,10 +224,21 @@ impl<'a, K: Key, V, S: BuildHasher> Entry<'a, K, V, S> {
     /// it. Takes constant time, except if the table grows or is built anew. In Rust it returns the
     /// reference, not a `Result`.
     ///
-    /// ```ignore
+    /// ```
+    /// # use slotmap_proved::{DefaultKey, Global, Key};
+    /// # use slotmap_proved::fallible::{SlotMap, SparseSecondaryMap};
+    /// # fn main() -> Result<(), Box<dyn std::error::Error>> {
+    /// # let alloc = Global;
+    /// # let mut primary: SlotMap<DefaultKey, u64> = SlotMap::new(alloc)?;
+    /// # let a = primary.insert(10)?;
+    /// # let b = primary.insert(20)?;
+    /// # let mut map: SparseSecondaryMap<DefaultKey, u64> = SparseSecondaryMap::new(alloc)?;
+    /// # map.insert(a, 1)?;
     /// *map.try_entry(a)?.or_insert(7)? = 5;
     /// assert_eq!(*map.try_entry(a)?.or_insert(7)?, 5);
     /// assert_eq!(*map.try_entry(b)?.or_insert(7)?, 7);
+    /// # Ok(())
+    /// # }
     /// ```
     ///
     /// # Proved
@@ -186,6 +250,8 @@ impl<'a, K: Key, V, S: BuildHasher> Entry<'a, K, V, S> {
     /// ensures err { IfErr result (λ error. (sparse_entry_value K.data_of self.entry ≡ None) × (error.0 ≡ value)) }
     /// ensures room { map.len (sparse_entry_map self.entry).pairs < (sparse_entry_map self.entry).capacity → IsOk result }
     /// ```
+    ///
+    /// Words: [`capacity`](crate::words#capacity-of-slotmap_sparse-content), [`entry_lends_ok`](crate::words#entry_lends_ok), [`IsSparseInPlace`](crate::words#issparseinplace), [`pairs`](crate::words#pairs-of-slotmap_sparse-content), [`room`](crate::words#room-of-slotmap_sparse-content), [`sparse_entry_map`](crate::words#sparse_entry_map), [`sparse_entry_value`](crate::words#sparse_entry_value).
     #[inline]
     pub fn or_insert(self, value: V) -> Result<&'a mut V, PutError<V>> {
         match self {
@@ -200,9 +266,20 @@ impl<'a, K: Key, V, S: BuildHasher> Entry<'a, K, V, S> {
     /// allocation fails, `f` isn't called; once `f` was called, the call succeeds. Apart from that
     /// it does the same as `or_insert`, at the same cost.
     ///
-    /// ```ignore
+    /// ```
+    /// # use slotmap_proved::{DefaultKey, Global, Key};
+    /// # use slotmap_proved::fallible::{SlotMap, SparseSecondaryMap};
+    /// # fn main() -> Result<(), Box<dyn std::error::Error>> {
+    /// # let alloc = Global;
+    /// # let mut primary: SlotMap<DefaultKey, u64> = SlotMap::new(alloc)?;
+    /// # let a = primary.insert(10)?;
+    /// # let b = primary.insert(20)?;
+    /// # let mut map: SparseSecondaryMap<DefaultKey, u64> = SparseSecondaryMap::new(alloc)?;
+    /// # map.insert(a, 1)?;
     /// assert_eq!(*map.try_entry(a)?.or_insert_with(|| 7)?, 1);
     /// assert_eq!(*map.try_entry(b)?.or_insert_with(|| 7)?, 7);
+    /// # Ok(())
+    /// # }
     /// ```
     ///
     /// # Proved
@@ -215,6 +292,8 @@ impl<'a, K: Key, V, S: BuildHasher> Entry<'a, K, V, S> {
     /// ensures err { OnErr result (sparse_entry_value K.data_of self.entry ≡ None) }
     /// ensures room { map.len (sparse_entry_map self.entry).pairs < (sparse_entry_map self.entry).capacity → IsOk result }
     /// ```
+    ///
+    /// Words: [`capacity`](crate::words#capacity-of-slotmap_sparse-content), [`entry_lends_ok`](crate::words#entry_lends_ok), [`IsSparseInPlace`](crate::words#issparseinplace), [`pairs`](crate::words#pairs-of-slotmap_sparse-content), [`room`](crate::words#room-of-slotmap_sparse-content), [`sparse_entry_map`](crate::words#sparse_entry_map), [`sparse_entry_value`](crate::words#sparse_entry_value).
     #[inline]
     pub fn or_insert_with<F: FnOnce() -> V>(self, f: F) -> Result<&'a mut V, OutOfMemory>
     where
@@ -230,9 +309,20 @@ impl<'a, K: Key, V, S: BuildHasher> Entry<'a, K, V, S> {
     ///
     /// Apart from that it does the same as `or_insert`, at the same cost.
     ///
-    /// ```ignore
+    /// ```
+    /// # use slotmap_proved::{DefaultKey, Global, Key};
+    /// # use slotmap_proved::fallible::{SlotMap, SparseSecondaryMap};
+    /// # fn main() -> Result<(), Box<dyn std::error::Error>> {
+    /// # let alloc = Global;
+    /// # let mut primary: SlotMap<DefaultKey, u64> = SlotMap::new(alloc)?;
+    /// # let a = primary.insert(10)?;
+    /// # let b = primary.insert(20)?;
+    /// # let mut map: SparseSecondaryMap<DefaultKey, u64> = SparseSecondaryMap::new(alloc)?;
+    /// # map.insert(a, 1)?;
     /// assert_eq!(*map.try_entry(a)?.or_default()?, 1);
     /// assert_eq!(*map.try_entry(b)?.or_default()?, 0);
+    /// # Ok(())
+    /// # }
     /// ```
     ///
     /// # Proved
@@ -244,6 +334,8 @@ impl<'a, K: Key, V, S: BuildHasher> Entry<'a, K, V, S> {
     /// ensures err { OnErr result (sparse_entry_value K.data_of self.entry ≡ None) }
     /// ensures room { map.len (sparse_entry_map self.entry).pairs < (sparse_entry_map self.entry).capacity → IsOk result }
     /// ```
+    ///
+    /// Words: [`capacity`](crate::words#capacity-of-slotmap_sparse-content), [`entry_lends_ok`](crate::words#entry_lends_ok), [`IsSparseInPlace`](crate::words#issparseinplace), [`pairs`](crate::words#pairs-of-slotmap_sparse-content), [`room`](crate::words#room-of-slotmap_sparse-content), [`sparse_entry_map`](crate::words#sparse_entry_map), [`sparse_entry_value`](crate::words#sparse_entry_value).
     #[inline]
     pub fn or_default(self) -> Result<&'a mut V, OutOfMemory>
     where
@@ -259,10 +351,21 @@ impl<'a, K: Key, V, S: BuildHasher> Entry<'a, K, V, S> {
 impl<'a, K: Key, V, S: BuildHasher> VacantEntry<'a, K, V, S> {
     /// Returns the key, in constant time.
     ///
-    /// ```ignore
+    /// ```
+    /// # use slotmap_proved::{DefaultKey, Global, Key};
+    /// # use slotmap_proved::fallible::{SlotMap, sparse_secondary, SparseSecondaryMap};
+    /// # fn main() -> Result<(), Box<dyn std::error::Error>> {
+    /// # let alloc = Global;
+    /// # let mut primary: SlotMap<DefaultKey, u64> = SlotMap::new(alloc)?;
+    /// # let a = primary.insert(10)?;
+    /// # let b = primary.insert(20)?;
+    /// # let mut map: SparseSecondaryMap<DefaultKey, u64> = SparseSecondaryMap::new(alloc)?;
+    /// # map.insert(a, 1)?;
     /// if let sparse_secondary::Entry::Vacant(entry) = map.try_entry(b)? {
     ///     assert_eq!(entry.key(), b);
     /// }
+    /// # Ok(())
+    /// # }
     /// ```
     ///
     /// # Proved
@@ -270,6 +373,8 @@ impl<'a, K: Key, V, S: BuildHasher> VacantEntry<'a, K, V, S> {
     /// ```text
     /// ensures { result ≡ sparse_entry_key (Vacant self.now) }
     /// ```
+    ///
+    /// Words: [`sparse_entry_key`](crate::words#sparse_entry_key).
     #[inline]
     pub fn key(&self) -> K {
         self.key
@@ -281,11 +386,22 @@ impl<'a, K: Key, V, S: BuildHasher> VacantEntry<'a, K, V, S> {
     /// Takes constant time, except if the table grows or is built anew. In Rust it returns the
     /// reference, not a `Result`.
     ///
-    /// ```ignore
+    /// ```
+    /// # use slotmap_proved::{DefaultKey, Global, Key};
+    /// # use slotmap_proved::fallible::{SlotMap, sparse_secondary, SparseSecondaryMap};
+    /// # fn main() -> Result<(), Box<dyn std::error::Error>> {
+    /// # let alloc = Global;
+    /// # let mut primary: SlotMap<DefaultKey, u64> = SlotMap::new(alloc)?;
+    /// # let a = primary.insert(10)?;
+    /// # let b = primary.insert(20)?;
+    /// # let mut map: SparseSecondaryMap<DefaultKey, u64> = SparseSecondaryMap::new(alloc)?;
+    /// # map.insert(a, 1)?;
     /// if let sparse_secondary::Entry::Vacant(entry) = map.try_entry(b)? {
     ///     *entry.insert(5)? = 6;
     /// }
     /// assert_eq!(map.get(b).copied(), Some(6));
+    /// # Ok(())
+    /// # }
     /// ```
     ///
     /// # Proved
@@ -297,6 +413,8 @@ impl<'a, K: Key, V, S: BuildHasher> VacantEntry<'a, K, V, S> {
     /// ensures err { IfErr result (λ error. error.0 ≡ value) }
     /// ensures room { map.len (sparse_entry_map (Vacant self.entry)).pairs < (sparse_entry_map (Vacant self.entry)).capacity → IsOk result }
     /// ```
+    ///
+    /// Words: [`capacity`](crate::words#capacity-of-slotmap_sparse-content), [`entry_lends_ok`](crate::words#entry_lends_ok), [`IsSparseInPlace`](crate::words#issparseinplace), [`pairs`](crate::words#pairs-of-slotmap_sparse-content), [`room`](crate::words#room-of-slotmap_sparse-content), [`sparse_entry_map`](crate::words#sparse_entry_map).
     #[inline]
     pub fn insert(self, value: V) -> Result<&'a mut V, PutError<V>> {
         let VacantEntry { map, key } = self;
@@ -322,10 +440,21 @@ impl<'a, K: Key, V, S: BuildHasher> VacantEntry<'a, K, V, S> {
 impl<'a, K: Key, V, S: BuildHasher> OccupiedEntry<'a, K, V, S> {
     /// Returns the key, in constant time.
     ///
-    /// ```ignore
+    /// ```
+    /// # use slotmap_proved::{DefaultKey, Global, Key};
+    /// # use slotmap_proved::fallible::{SlotMap, sparse_secondary, SparseSecondaryMap};
+    /// # fn main() -> Result<(), Box<dyn std::error::Error>> {
+    /// # let alloc = Global;
+    /// # let mut primary: SlotMap<DefaultKey, u64> = SlotMap::new(alloc)?;
+    /// # let a = primary.insert(10)?;
+    /// # let b = primary.insert(20)?;
+    /// # let mut map: SparseSecondaryMap<DefaultKey, u64> = SparseSecondaryMap::new(alloc)?;
+    /// # map.insert(a, 1)?;
     /// if let sparse_secondary::Entry::Occupied(entry) = map.try_entry(a)? {
     ///     assert_eq!(entry.key(), a);
     /// }
+    /// # Ok(())
+    /// # }
     /// ```
     ///
     /// # Proved
@@ -333,6 +462,8 @@ impl<'a, K: Key, V, S: BuildHasher> OccupiedEntry<'a, K, V, S> {
     /// ```text
     /// ensures { result ≡ sparse_entry_key (Occupied self.now) }
     /// ```
+    ///
+    /// Words: [`sparse_entry_key`](crate::words#sparse_entry_key).
     #[inline]
     pub fn key(&self) -> K {
         self.key
@@ -340,10 +471,21 @@ impl<'a, K: Key, V, S: BuildHasher> OccupiedEntry<'a, K, V, S> {
 
     /// Returns a reference to the value, in constant time.
     ///
-    /// ```ignore
+    /// ```
+    /// # use slotmap_proved::{DefaultKey, Global, Key};
+    /// # use slotmap_proved::fallible::{SlotMap, sparse_secondary, SparseSecondaryMap};
+    /// # fn main() -> Result<(), Box<dyn std::error::Error>> {
+    /// # let alloc = Global;
+    /// # let mut primary: SlotMap<DefaultKey, u64> = SlotMap::new(alloc)?;
+    /// # let a = primary.insert(10)?;
+    /// # let b = primary.insert(20)?;
+    /// # let mut map: SparseSecondaryMap<DefaultKey, u64> = SparseSecondaryMap::new(alloc)?;
+    /// # map.insert(a, 1)?;
     /// if let sparse_secondary::Entry::Occupied(entry) = map.try_entry(a)? {
     ///     assert_eq!(*entry.get(), 1);
     /// }
+    /// # Ok(())
+    /// # }
     /// ```
     ///
     /// # Proved
@@ -352,6 +494,8 @@ impl<'a, K: Key, V, S: BuildHasher> OccupiedEntry<'a, K, V, S> {
     /// requires { IsSparseInPlace K.data_of (Occupied self.now) }
     /// ensures { sparse_entry_value K.data_of (Occupied self.now) ≡ Some result.now }
     /// ```
+    ///
+    /// Words: [`IsSparseInPlace`](crate::words#issparseinplace), [`sparse_entry_value`](crate::words#sparse_entry_value).
     #[inline]
     pub fn get(&self) -> &V {
         self.map.get_unchecked(self.key)
@@ -359,11 +503,22 @@ impl<'a, K: Key, V, S: BuildHasher> OccupiedEntry<'a, K, V, S> {
 
     /// Returns a mutable reference to the value, in constant time.
     ///
-    /// ```ignore
+    /// ```
+    /// # use slotmap_proved::{DefaultKey, Global, Key};
+    /// # use slotmap_proved::fallible::{SlotMap, sparse_secondary, SparseSecondaryMap};
+    /// # fn main() -> Result<(), Box<dyn std::error::Error>> {
+    /// # let alloc = Global;
+    /// # let mut primary: SlotMap<DefaultKey, u64> = SlotMap::new(alloc)?;
+    /// # let a = primary.insert(10)?;
+    /// # let b = primary.insert(20)?;
+    /// # let mut map: SparseSecondaryMap<DefaultKey, u64> = SparseSecondaryMap::new(alloc)?;
+    /// # map.insert(a, 1)?;
     /// if let sparse_secondary::Entry::Occupied(mut entry) = map.try_entry(a)? {
     ///     *entry.get_mut() = 5;
     ///     assert_eq!(*entry.get(), 5);
     /// }
+    /// # Ok(())
+    /// # }
     /// ```
     ///
     /// # Proved
@@ -374,6 +529,8 @@ impl<'a, K: Key, V, S: BuildHasher> OccupiedEntry<'a, K, V, S> {
     /// ensures value { sparse_entry_value K.data_of (Occupied self.old) ≡ Some result.now }
     /// ensures written { (w : V) → IsWritten K.data_of (Occupied self.old) w (Occupied (occupied_with K.data_of self.old w)) }
     /// ```
+    ///
+    /// Words: [`IsSparseInPlace`](crate::words#issparseinplace), [`IsWritten`](crate::words#iswritten-of-slotmap_sparse-entry), [`occupied_lends`](crate::words#occupied_lends-of-slotmap_sparse-entry), [`occupied_with`](crate::words#occupied_with-of-slotmap_sparse-entry), [`sparse_entry_value`](crate::words#sparse_entry_value).
     #[inline]
     pub fn get_mut(&mut self) -> &mut V {
         let key = self.key;
@@ -384,11 +541,22 @@ impl<'a, K: Key, V, S: BuildHasher> OccupiedEntry<'a, K, V, S> {
     ///
     /// Takes constant time.
     ///
-    /// ```ignore
+    /// ```
+    /// # use slotmap_proved::{DefaultKey, Global, Key};
+    /// # use slotmap_proved::fallible::{SlotMap, sparse_secondary, SparseSecondaryMap};
+    /// # fn main() -> Result<(), Box<dyn std::error::Error>> {
+    /// # let alloc = Global;
+    /// # let mut primary: SlotMap<DefaultKey, u64> = SlotMap::new(alloc)?;
+    /// # let a = primary.insert(10)?;
+    /// # let b = primary.insert(20)?;
+    /// # let mut map: SparseSecondaryMap<DefaultKey, u64> = SparseSecondaryMap::new(alloc)?;
+    /// # map.insert(a, 1)?;
     /// if let sparse_secondary::Entry::Occupied(entry) = map.try_entry(a)? {
     ///     *entry.into_mut() = 5;
     /// }
     /// assert_eq!(map.get(a).copied(), Some(5));
+    /// # Ok(())
+    /// # }
     /// ```
     ///
     /// # Proved
@@ -398,6 +566,8 @@ impl<'a, K: Key, V, S: BuildHasher> OccupiedEntry<'a, K, V, S> {
     /// ensures* writes_back { sem 𝓛 (entry_lends K.row V.row S.row S.Hasher.row S.BuildHasher S.Hasher.Hasher K.data_of (Occupied self.entry) result) }
     /// ensures value { sparse_entry_value K.data_of (Occupied self.entry) ≡ Some result.now }
     /// ```
+    ///
+    /// Words: [`entry_lends`](crate::words#entry_lends-of-slotmap_sparse-entry), [`IsSparseInPlace`](crate::words#issparseinplace), [`sparse_entry_value`](crate::words#sparse_entry_value).
     #[inline]
     pub fn into_mut(self) -> &'a mut V {
         let OccupiedEntry { map, key } = self;
@@ -406,11 +576,22 @@ impl<'a, K: Key, V, S: BuildHasher> OccupiedEntry<'a, K, V, S> {
 
     /// Sets the value and returns the one before, in constant time.
     ///
-    /// ```ignore
+    /// ```
+    /// # use slotmap_proved::{DefaultKey, Global, Key};
+    /// # use slotmap_proved::fallible::{SlotMap, sparse_secondary, SparseSecondaryMap};
+    /// # fn main() -> Result<(), Box<dyn std::error::Error>> {
+    /// # let alloc = Global;
+    /// # let mut primary: SlotMap<DefaultKey, u64> = SlotMap::new(alloc)?;
+    /// # let a = primary.insert(10)?;
+    /// # let b = primary.insert(20)?;
+    /// # let mut map: SparseSecondaryMap<DefaultKey, u64> = SparseSecondaryMap::new(alloc)?;
+    /// # map.insert(a, 1)?;
     /// if let sparse_secondary::Entry::Occupied(mut entry) = map.try_entry(a)? {
     ///     assert_eq!(entry.insert(5), 1);
     /// }
     /// assert_eq!(map.get(a).copied(), Some(5));
+    /// # Ok(())
+    /// # }
     /// ```
     ///
     /// # Proved
@@ -420,6 +601,8 @@ impl<'a, K: Key, V, S: BuildHasher> OccupiedEntry<'a, K, V, S> {
     /// ensures old { sparse_entry_value K.data_of (Occupied self.old) ≡ Some result }
     /// ensures written { IsWritten K.data_of (Occupied self.old) value (Occupied self.new) }
     /// ```
+    ///
+    /// Words: [`IsSparseInPlace`](crate::words#issparseinplace), [`IsWritten`](crate::words#iswritten-of-slotmap_sparse-entry), [`sparse_entry_value`](crate::words#sparse_entry_value).
     #[inline]
     pub fn insert(&mut self, value: V) -> V {
         mem::replace(self.get_mut(), value)
@@ -427,11 +610,22 @@ impl<'a, K: Key, V, S: BuildHasher> OccupiedEntry<'a, K, V, S> {
 
     /// Removes the key and returns it with its value, in constant time.
     ///
-    /// ```ignore
+    /// ```
+    /// # use slotmap_proved::{DefaultKey, Global, Key};
+    /// # use slotmap_proved::fallible::{SlotMap, sparse_secondary, SparseSecondaryMap};
+    /// # fn main() -> Result<(), Box<dyn std::error::Error>> {
+    /// # let alloc = Global;
+    /// # let mut primary: SlotMap<DefaultKey, u64> = SlotMap::new(alloc)?;
+    /// # let a = primary.insert(10)?;
+    /// # let b = primary.insert(20)?;
+    /// # let mut map: SparseSecondaryMap<DefaultKey, u64> = SparseSecondaryMap::new(alloc)?;
+    /// # map.insert(a, 1)?;
     /// if let sparse_secondary::Entry::Occupied(entry) = map.try_entry(a)? {
     ///     assert_eq!(entry.remove_entry(), (a, 1));
     /// }
     /// assert!(!map.contains_key(a));
+    /// # Ok(())
+    /// # }
     /// ```
     ///
     /// # Proved
@@ -443,6 +637,8 @@ impl<'a, K: Key, V, S: BuildHasher> OccupiedEntry<'a, K, V, S> {
     /// ensures removes { self.exit.0.now.pairs ≡ entry_without K.data_of (Occupied self.entry) }
     /// ensures room { room (sparse_entry_map (Occupied self.entry)) ≤ room self.exit.0.now }
     /// ```
+    ///
+    /// Words: [`entry_without`](crate::words#entry_without-of-slotmap_sparse-entry), [`IsSparseInPlace`](crate::words#issparseinplace), [`pairs`](crate::words#pairs-of-slotmap_sparse-content), [`room`](crate::words#room-of-slotmap_sparse-content), [`sparse_entry_key`](crate::words#sparse_entry_key), [`sparse_entry_map`](crate::words#sparse_entry_map), [`sparse_entry_value`](crate::words#sparse_entry_value).
     #[inline]
     pub fn remove_entry(self) -> (K, V) {
         let OccupiedEntry { map, key } = self;
@@ -451,11 +647,22 @@ impl<'a, K: Key, V, S: BuildHasher> OccupiedEntry<'a, K, V, S> {
 
     /// Removes the key and returns its value, in constant time.
     ///
-    /// ```ignore
+    /// ```
+    /// # use slotmap_proved::{DefaultKey, Global, Key};
+    /// # use slotmap_proved::fallible::{SlotMap, sparse_secondary, SparseSecondaryMap};
+    /// # fn main() -> Result<(), Box<dyn std::error::Error>> {
+    /// # let alloc = Global;
+    /// # let mut primary: SlotMap<DefaultKey, u64> = SlotMap::new(alloc)?;
+    /// # let a = primary.insert(10)?;
+    /// # let b = primary.insert(20)?;
+    /// # let mut map: SparseSecondaryMap<DefaultKey, u64> = SparseSecondaryMap::new(alloc)?;
+    /// # map.insert(a, 1)?;
     /// if let sparse_secondary::Entry::Occupied(entry) = map.try_entry(a)? {
     ///     assert_eq!(entry.remove(), 1);
     /// }
     /// assert!(!map.contains_key(a));
+    /// # Ok(())
+    /// # }
     /// ```
     ///
     /// # Proved
@@ -466,6 +673,8 @@ impl<'a, K: Key, V, S: BuildHasher> OccupiedEntry<'a, K, V, S> {
     /// ensures removes { self.exit.0.now.pairs ≡ entry_without K.data_of (Occupied self.entry) }
     /// ensures room { room (sparse_entry_map (Occupied self.entry)) ≤ room self.exit.0.now }
     /// ```
+    ///
+    /// Words: [`entry_without`](crate::words#entry_without-of-slotmap_sparse-entry), [`IsSparseInPlace`](crate::words#issparseinplace), [`pairs`](crate::words#pairs-of-slotmap_sparse-content), [`room`](crate::words#room-of-slotmap_sparse-content), [`sparse_entry_map`](crate::words#sparse_entry_map), [`sparse_entry_value`](crate::words#sparse_entry_value).
     #[inline]
     pub fn remove(self) -> V {
         self.remove_entry().1

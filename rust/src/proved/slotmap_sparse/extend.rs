@@ -18,23 +18,40 @@ impl<K: Key, V, S: BuildHasher> SparseSecondaryMap<K, V, S> {
     /// `capacity()` was before. The iterator has to end. Each pair costs what `insert` does. In
     /// Rust this is the trait `Extend`.
     ///
-    /// ```ignore
-    /// map.extend(primary)?;
+    /// ```
+    /// # use slotmap_proved::{DefaultKey, Global, Key};
+    /// # use slotmap_proved::fallible::{SlotMap, SparseSecondaryMap};
+    /// # fn main() -> Result<(), Box<dyn std::error::Error>> {
+    /// # let alloc = Global;
+    /// # let mut primary: SlotMap<DefaultKey, u64> = SlotMap::new(alloc)?;
+    /// # let a = primary.insert(10)?;
+    /// # let b = primary.insert(20)?;
+    /// # let mut map: SparseSecondaryMap<DefaultKey, u64> = SparseSecondaryMap::new(alloc)?;
+    /// # map.insert(a, 1)?;
+    /// map.extend(primary).unwrap();
     /// assert_eq!((map[a], map[b]), (10, 20));
+    /// # Ok(())
+    /// # }
     /// ```
     ///
     /// # Proved
     ///
     /// ```text
-    /// requires { (it : I.IntoIter) → I.into_iter_gives iter it → I.IntoIter.can_next it × IsFinite (I.IntoIter.remaining it) }
-    /// ensures extends { (it : I.IntoIter) × I.into_iter_gives iter it × Extends K.data_of it self.old.pairs result self.new.pairs I.IntoIter.next_gives }
+    /// requires { (it : I.IntoIter) → I.into_iter_gives iter it →
+    ///     I.IntoIter.can_next it × IsFinite (I.IntoIter.remaining it) }
+    /// ensures extends { (it : I.IntoIter) × I.into_iter_gives iter it
+    ///     × Extends K.data_of it self.old.pairs result self.new.pairs I.IntoIter.next_gives }
     /// ensures capacity { self.old.capacity ≤ self.new.capacity }
+    ///
     /// // A pair is returned only once the map holds as many keys as it had memory for, and if
     /// // nothing is at its index.
     /// ensures full { OnErr result (self.old.capacity ≤ map.len self.new.pairs) }
     /// ensures absent { IfErr result (λ back. map.get self.new.pairs (K.data_of back.0).index ≡ None) }
+    ///
     /// ensures valid { IsSparseContent self.new }
     /// ```
+    ///
+    /// Words: [`capacity`](crate::words#capacity-of-slotmap_sparse-content), [`Extends`](crate::words#extends), [`index`](crate::words#index), [`IsSparseContent`](crate::words#issparsecontent), [`pairs`](crate::words#pairs-of-slotmap_sparse-content).
     #[inline]
     pub fn extend<I: IntoIterator<Item = (K, V)>>(&mut self, iter: I) -> Result<(), (K, V)> {
         self.note_valid();
@@ -51,23 +68,40 @@ impl<K: Key, V, S: BuildHasher> SparseSecondaryMap<K, V, S> {
     /// Apart from that it does the same as `extend`, at the same cost. In Rust this is a second
     /// impl of `Extend`.
     ///
-    /// ```ignore
-    /// map.extend_refs(primary.iter())?;
+    /// ```
+    /// # use slotmap_proved::{DefaultKey, Global, Key};
+    /// # use slotmap_proved::fallible::{SlotMap, SparseSecondaryMap};
+    /// # fn main() -> Result<(), Box<dyn std::error::Error>> {
+    /// # let alloc = Global;
+    /// # let mut primary: SlotMap<DefaultKey, u64> = SlotMap::new(alloc)?;
+    /// # let a = primary.insert(10)?;
+    /// # let b = primary.insert(20)?;
+    /// # let mut map: SparseSecondaryMap<DefaultKey, u64> = SparseSecondaryMap::new(alloc)?;
+    /// # map.insert(a, 1)?;
+    /// map.extend_refs(primary.iter()).unwrap();
     /// assert_eq!((map[a], map[b]), (10, 20));
+    /// # Ok(())
+    /// # }
     /// ```
     ///
     /// # Proved
     ///
     /// ```text
-    /// requires { (it : I.IntoIter) → I.into_iter_gives iter it → I.IntoIter.can_next it × IsFinite (I.IntoIter.remaining it) }
-    /// ensures extends { (it : I.IntoIter) × I.into_iter_gives iter it × ExtendsBy K.data_of it self.old.pairs result self.new.pairs I.IntoIter.next_gives }
+    /// requires { (it : I.IntoIter) → I.into_iter_gives iter it →
+    ///     I.IntoIter.can_next it × IsFinite (I.IntoIter.remaining it) }
+    /// ensures extends { (it : I.IntoIter) × I.into_iter_gives iter it
+    ///     × ExtendsBy K.data_of it self.old.pairs result self.new.pairs I.IntoIter.next_gives }
     /// ensures capacity { self.old.capacity ≤ self.new.capacity }
+    ///
     /// // A pair is returned only once the map holds as many keys as it had memory for, and if
     /// // nothing is at its index.
     /// ensures full { OnErr result (self.old.capacity ≤ map.len self.new.pairs) }
     /// ensures absent { IfErr result (λ back. map.get self.new.pairs (K.data_of back.0).index ≡ None) }
+    ///
     /// ensures valid { IsSparseContent self.new }
     /// ```
+    ///
+    /// Words: [`capacity`](crate::words#capacity-of-slotmap_sparse-content), [`ExtendsBy`](crate::words#extendsby), [`index`](crate::words#index), [`IsSparseContent`](crate::words#issparsecontent), [`pairs`](crate::words#pairs-of-slotmap_sparse-content).
     #[inline]
     pub fn extend_refs<'b, I: IntoIterator<Item = (K, &'b V)>>(
         &mut self,
@@ -95,20 +129,37 @@ impl<K: Key, V, S: BuildHasher> SparseSecondaryMap<K, V, S> {
     ///
     /// If strangers choose the keys, use a `RandomState`.
     ///
-    /// ```ignore
-    /// let hasher = std::hash::RandomState::new(&rt)?;
-    /// let all = SparseSecondaryMap::from_iter_with_hasher(alloc, primary, hasher)?;
+    /// ```
+    /// # use slotmap_proved::{DefaultKey, Global, Key};
+    /// # use slotmap_proved::fallible::{SlotMap, SparseSecondaryMap};
+    /// # fn main() -> Result<(), Box<dyn std::error::Error>> {
+    /// # let alloc = Global;
+    /// # let mut primary: SlotMap<DefaultKey, u64> = SlotMap::new(alloc)?;
+    /// # let a = primary.insert(10)?;
+    /// # let b = primary.insert(20)?;
+    /// # let mut map: SparseSecondaryMap<DefaultKey, u64> = SparseSecondaryMap::new(alloc)?;
+    /// # map.insert(a, 1)?;
+    /// let hasher = std::collections::hash_map::RandomState::new();
+    /// let all = SparseSecondaryMap::from_iter_with_hasher(alloc, primary, hasher).unwrap();
     /// assert_eq!((all[a], all[b]), (10, 20));
+    /// # Ok(())
+    /// # }
     /// ```
     ///
     /// # Proved
     ///
     /// ```text
-    /// requires { (it : I.IntoIter) → I.into_iter_gives iter it → I.IntoIter.can_next it × IsFinite (I.IntoIter.remaining it) }
-    /// ensures ok { IfOk result (λ all. (it : I.IntoIter) × (pairs : List (K × V)) × I.into_iter_gives iter it × Drains I.IntoIter.next_gives it pairs × AllPut K.data_of map.empty pairs all.pairs) }
-    /// ensures err { IfErr result (λ back. (pair : K × V) × (back ≡ Some pair) × (it : I.IntoIter) × (pairs : List (K × V)) × (rest : I.IntoIter) × I.into_iter_gives iter it × YieldsThen I.IntoIter.next_gives it pairs (Some pair) rest × LacksRoomForPair K.data_of pairs pair) }
+    /// requires { (it : I.IntoIter) → I.into_iter_gives iter it →
+    ///     I.IntoIter.can_next it × IsFinite (I.IntoIter.remaining it) }
+    /// ensures ok { IfOk result (λ all. (it : I.IntoIter) × (pairs : List (K × V)) × I.into_iter_gives iter it
+    ///     × Drains I.IntoIter.next_gives it pairs × AllPut K.data_of map.empty pairs all.pairs) }
+    /// ensures err { IfErr result (λ back. (pair : K × V) × (back ≡ Some pair) × (it : I.IntoIter) × (pairs : List (K × V)) × (rest : I.IntoIter)
+    ///     × I.into_iter_gives iter it × YieldsThen I.IntoIter.next_gives it pairs (Some pair) rest
+    ///     × LacksRoomForPair K.data_of pairs pair) }
     /// ensures valid { IfOk result IsSparseContent }
     /// ```
+    ///
+    /// Words: [`AllPut`](crate::words#allput), [`IsSparseContent`](crate::words#issparsecontent), [`LacksRoomForPair`](crate::words#lacksroomforpair), [`pairs`](crate::words#pairs-of-slotmap_sparse-content).
     #[inline]
     pub fn from_iter_with_hasher<I: IntoIterator<Item = (K, V)>>(
         alloc: Global,
@@ -136,20 +187,37 @@ impl<K: Key, V> SparseSecondaryMap<K, V> {
     /// the keys, call [`SparseSecondaryMap::from_iter_with_hasher`]: the default hasher's seed is
     /// fixed and public.
     ///
-    /// ```ignore
+    /// ```
+    /// # use slotmap_proved::{DefaultKey, Global, Key};
+    /// # use slotmap_proved::fallible::{SlotMap, SparseSecondaryMap};
+    /// # fn main() -> Result<(), Box<dyn std::error::Error>> {
+    /// # let alloc = Global;
+    /// # let mut primary: SlotMap<DefaultKey, u64> = SlotMap::new(alloc)?;
+    /// # let a = primary.insert(10)?;
+    /// # let b = primary.insert(20)?;
+    /// # let mut map: SparseSecondaryMap<DefaultKey, u64> = SparseSecondaryMap::new(alloc)?;
+    /// # map.insert(a, 1)?;
     /// let all: SparseSecondaryMap<DefaultKey, u64> =
-    ///     SparseSecondaryMap::from_iter(alloc, primary)?;
+    ///     SparseSecondaryMap::from_iter(alloc, primary).unwrap();
     /// assert_eq!((all[a], all[b]), (10, 20));
+    /// # Ok(())
+    /// # }
     /// ```
     ///
     /// # Proved
     ///
     /// ```text
-    /// requires { (it : I.IntoIter) → I.into_iter_gives iter it → I.IntoIter.can_next it × IsFinite (I.IntoIter.remaining it) }
-    /// ensures ok { IfOk result (λ all. (it : I.IntoIter) × (pairs : List (K × V)) × I.into_iter_gives iter it × Drains I.IntoIter.next_gives it pairs × AllPut K.data_of map.empty pairs all.pairs) }
-    /// ensures err { IfErr result (λ back. (pair : K × V) × (back ≡ Some pair) × (it : I.IntoIter) × (pairs : List (K × V)) × (rest : I.IntoIter) × I.into_iter_gives iter it × YieldsThen I.IntoIter.next_gives it pairs (Some pair) rest × LacksRoomForPair K.data_of pairs pair) }
+    /// requires { (it : I.IntoIter) → I.into_iter_gives iter it →
+    ///     I.IntoIter.can_next it × IsFinite (I.IntoIter.remaining it) }
+    /// ensures ok { IfOk result (λ all. (it : I.IntoIter) × (pairs : List (K × V)) × I.into_iter_gives iter it
+    ///     × Drains I.IntoIter.next_gives it pairs × AllPut K.data_of map.empty pairs all.pairs) }
+    /// ensures err { IfErr result (λ back. (pair : K × V) × (back ≡ Some pair) × (it : I.IntoIter) × (pairs : List (K × V)) × (rest : I.IntoIter)
+    ///     × I.into_iter_gives iter it × YieldsThen I.IntoIter.next_gives it pairs (Some pair) rest
+    ///     × LacksRoomForPair K.data_of pairs pair) }
     /// ensures valid { IfOk result IsSparseContent }
     /// ```
+    ///
+    /// Words: [`AllPut`](crate::words#allput), [`IsSparseContent`](crate::words#issparsecontent), [`LacksRoomForPair`](crate::words#lacksroomforpair), [`pairs`](crate::words#pairs-of-slotmap_sparse-content).
     #[inline]
     pub fn from_iter<I: IntoIterator<Item = (K, V)>>(
         alloc: Global,

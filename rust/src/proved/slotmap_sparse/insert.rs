@@ -54,13 +54,24 @@ impl<K: Key, V, S: BuildHasher> SparseSecondaryMap<K, V, S> {
     /// aborts. A call allocates only if nothing is at the key's index, and never fails while the
     /// map holds fewer keys than `capacity()`. Takes constant time, except if the table grows or is built anew.
     ///
-    /// ```ignore
+    /// ```
+    /// # use slotmap_proved::{DefaultKey, Global, Key};
+    /// # use slotmap_proved::fallible::{SlotMap, SparseSecondaryMap};
+    /// # fn main() -> Result<(), Box<dyn std::error::Error>> {
+    /// # let alloc = Global;
+    /// # let mut primary: SlotMap<DefaultKey, u64> = SlotMap::new(alloc)?;
+    /// # let a = primary.insert(10)?;
+    /// # let b = primary.insert(20)?;
+    /// # let mut map: SparseSecondaryMap<DefaultKey, u64> = SparseSecondaryMap::new(alloc)?;
+    /// # map.insert(a, 1)?;
     /// assert_eq!(map.insert(a, 5)?, Some(1));
     /// primary.remove(a);
     /// let newer = primary.insert(30)?; // reuses the slot of a
     /// assert_eq!(map.insert(newer, 6)?, None);
     /// assert_eq!(map.insert(a, 7)?, None); // older: without effect
     /// assert_eq!(map[newer], 6);
+    /// # Ok(())
+    /// # }
     /// ```
     ///
     /// # Proved
@@ -68,17 +79,22 @@ impl<K: Key, V, S: BuildHasher> SparseSecondaryMap<K, V, S> {
     /// ```text
     /// ensures value { IfOk result (λ before. before ≡ get self.old.pairs (K.data_of key)) }
     /// ensures ok { OnOk result (self.new.pairs ≡ put self.old.pairs (K.data_of key) value) }
+    ///
     /// // Fails only if nothing is at the index, and the map is at its capacity.
     /// ensures err { IfErr result (λ error. RefusesPut self.old.pairs (K.data_of key) value error.0) }
     /// ensures absent { OnErr result (map.get self.old.pairs (K.data_of key).index ≡ None) }
     /// ensures unchanged { OnErr result (self.new.pairs ≡ self.old.pairs) }
     /// ensures room { map.len self.old.pairs < self.old.capacity → IsOk result }
+    ///
     /// // Allocates only if nothing is at the index, and never for the null key.
-    /// ensures stood { map.contains_key self.old.pairs (K.data_of key).index ≡ true → self.new.capacity ≡ self.old.capacity }
+    /// ensures stood { map.contains_key self.old.pairs (K.data_of key).index ≡ true
+    ///     → self.new.capacity ≡ self.old.capacity }
     /// ensures null { is_null (K.data_of key) ≡ true → self.new ≡ self.old }
     /// ensures capacity { self.old.capacity ≤ self.new.capacity }
     /// ensures valid { IsSparseContent self.new }
     /// ```
+    ///
+    /// Words: [`capacity`](crate::words#capacity-of-slotmap_sparse-content), [`get`](crate::words#get), [`index`](crate::words#index), [`is_null`](crate::words#is_null), [`IsSparseContent`](crate::words#issparsecontent), [`pairs`](crate::words#pairs-of-slotmap_sparse-content), [`put`](crate::words#put), [`RefusesPut`](crate::words#refusesput).
     #[inline(always)]
     pub fn insert(&mut self, key: K, value: V) -> Result<Option<V>, PutError<V>> {
         self.note_valid();
@@ -106,10 +122,21 @@ impl<K: Key, V, S: BuildHasher> SparseSecondaryMap<K, V, S> {
     ///
     /// Only `Placed` changes what the map holds. It costs what `insert` does. Rust lacks this call.
     ///
-    /// ```ignore
+    /// ```
+    /// # use slotmap_proved::{DefaultKey, Global, Key, OrPut};
+    /// # use slotmap_proved::fallible::{SlotMap, SparseSecondaryMap};
+    /// # fn main() -> Result<(), Box<dyn std::error::Error>> {
+    /// # let alloc = Global;
+    /// # let mut primary: SlotMap<DefaultKey, u64> = SlotMap::new(alloc)?;
+    /// # let a = primary.insert(10)?;
+    /// # let b = primary.insert(20)?;
+    /// # let mut map: SparseSecondaryMap<DefaultKey, u64> = SparseSecondaryMap::new(alloc)?;
+    /// # map.insert(a, 1)?;
     /// assert!(matches!(map.or_put(b, 5), OrPut::Placed));
     /// assert!(matches!(map.or_put(b, 6), OrPut::Kept(6)));
     /// assert!(matches!(map.or_put(DefaultKey::null(), 7), OrPut::NoEntry(7)));
+    /// # Ok(())
+    /// # }
     /// ```
     ///
     /// # Proved
@@ -118,12 +145,16 @@ impl<K: Key, V, S: BuildHasher> SparseSecondaryMap<K, V, S> {
     /// ensures does { OrPuts self.old.pairs (K.data_of key) value result self.new.pairs }
     /// ensures room { result ≡ or_put.Memory value → self.old.capacity ≤ map.len self.old.pairs }
     /// ensures absent { result ≡ or_put.Memory value → map.get self.old.pairs (K.data_of key).index ≡ None }
+    ///
     /// // Allocates only if nothing is at the index, and never for the null key.
-    /// ensures stood { map.contains_key self.old.pairs (K.data_of key).index ≡ true → self.new.capacity ≡ self.old.capacity }
+    /// ensures stood { map.contains_key self.old.pairs (K.data_of key).index ≡ true
+    ///     → self.new.capacity ≡ self.old.capacity }
     /// ensures null { is_null (K.data_of key) ≡ true → self.new ≡ self.old }
     /// ensures capacity { self.old.capacity ≤ self.new.capacity }
     /// ensures valid { IsSparseContent self.new }
     /// ```
+    ///
+    /// Words: [`capacity`](crate::words#capacity-of-slotmap_sparse-content), [`index`](crate::words#index), [`is_null`](crate::words#is_null), [`IsSparseContent`](crate::words#issparsecontent), [`OrPuts`](crate::words#orputs), [`pairs`](crate::words#pairs-of-slotmap_sparse-content).
     #[inline]
     pub fn or_put(&mut self, key: K, value: V) -> OrPut<V> {
         match self.find(key) {

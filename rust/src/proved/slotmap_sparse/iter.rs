@@ -26,11 +26,22 @@ pub struct Iter<'a, K, V> {
 impl<'a, K, V> Iter<'a, K, V> {
     /// Returns how many pairs are left, in constant time.
     ///
-    /// ```ignore
+    /// ```
+    /// # use slotmap_proved::{DefaultKey, Global, Key};
+    /// # use slotmap_proved::fallible::{SlotMap, SparseSecondaryMap};
+    /// # fn main() -> Result<(), Box<dyn std::error::Error>> {
+    /// # let alloc = Global;
+    /// # let mut primary: SlotMap<DefaultKey, u64> = SlotMap::new(alloc)?;
+    /// # let a = primary.insert(10)?;
+    /// # let b = primary.insert(20)?;
+    /// # let mut map: SparseSecondaryMap<DefaultKey, u64> = SparseSecondaryMap::new(alloc)?;
+    /// # map.insert(a, 1)?;
     /// let mut pairs = map.iter();
     /// assert_eq!(pairs.len(), 1);
     /// assert_eq!(pairs.next(), Some((a, &1)));
     /// assert_eq!(pairs.len(), 0);
+    /// # Ok(())
+    /// # }
     /// ```
     ///
     /// # Proved
@@ -99,11 +110,22 @@ pub struct Keys<'a, K, V> {
 impl<'a, K, V> Keys<'a, K, V> {
     /// Returns how many keys are left, in constant time.
     ///
-    /// ```ignore
+    /// ```
+    /// # use slotmap_proved::{DefaultKey, Global, Key};
+    /// # use slotmap_proved::fallible::{SlotMap, SparseSecondaryMap};
+    /// # fn main() -> Result<(), Box<dyn std::error::Error>> {
+    /// # let alloc = Global;
+    /// # let mut primary: SlotMap<DefaultKey, u64> = SlotMap::new(alloc)?;
+    /// # let a = primary.insert(10)?;
+    /// # let b = primary.insert(20)?;
+    /// # let mut map: SparseSecondaryMap<DefaultKey, u64> = SparseSecondaryMap::new(alloc)?;
+    /// # map.insert(a, 1)?;
     /// let mut keys = map.keys();
     /// assert_eq!(keys.len(), 1);
     /// assert_eq!(keys.next(), Some(a));
     /// assert_eq!(keys.len(), 0);
+    /// # Ok(())
+    /// # }
     /// ```
     ///
     /// # Proved
@@ -171,11 +193,22 @@ pub struct Values<'a, K, V> {
 impl<'a, K, V> Values<'a, K, V> {
     /// Returns how many values are left, in constant time.
     ///
-    /// ```ignore
+    /// ```
+    /// # use slotmap_proved::{DefaultKey, Global, Key};
+    /// # use slotmap_proved::fallible::{SlotMap, SparseSecondaryMap};
+    /// # fn main() -> Result<(), Box<dyn std::error::Error>> {
+    /// # let alloc = Global;
+    /// # let mut primary: SlotMap<DefaultKey, u64> = SlotMap::new(alloc)?;
+    /// # let a = primary.insert(10)?;
+    /// # let b = primary.insert(20)?;
+    /// # let mut map: SparseSecondaryMap<DefaultKey, u64> = SparseSecondaryMap::new(alloc)?;
+    /// # map.insert(a, 1)?;
     /// let mut values = map.values();
     /// assert_eq!(values.len(), 1);
     /// assert_eq!(values.next().copied(), Some(1));
     /// assert_eq!(values.len(), 0);
+    /// # Ok(())
+    /// # }
     /// ```
     ///
     /// # Proved
@@ -238,11 +271,22 @@ impl<K: Key, V, S: BuildHasher> SparseSecondaryMap<K, V, S> {
     /// The call takes constant time, and so does each step. Neither allocates. To change values
     /// call `retain` with a closure that writes and returns true.
     ///
-    /// ```ignore
+    /// ```
+    /// # use slotmap_proved::{DefaultKey, Global, Key};
+    /// # use slotmap_proved::fallible::{SlotMap, SparseSecondaryMap};
+    /// # fn main() -> Result<(), Box<dyn std::error::Error>> {
+    /// # let alloc = Global;
+    /// # let mut primary: SlotMap<DefaultKey, u64> = SlotMap::new(alloc)?;
+    /// # let a = primary.insert(10)?;
+    /// # let b = primary.insert(20)?;
+    /// # let mut map: SparseSecondaryMap<DefaultKey, u64> = SparseSecondaryMap::new(alloc)?;
+    /// # map.insert(a, 1)?;
     /// map.insert(b, 2)?;
     /// for (key, value) in map.iter() {
     ///     assert_eq!(*value, map[key]);
     /// }
+    /// # Ok(())
+    /// # }
     /// ```
     ///
     /// # Proved
@@ -251,6 +295,8 @@ impl<K: Key, V, S: BuildHasher> SparseSecondaryMap<K, V, S> {
     /// ensures listing { IsListing (keyed self.now.pairs) result }
     /// ensures valid { IsSparseContent self.now }
     /// ```
+    ///
+    /// Words: [`IsListing`](crate::words#islisting), [`IsSparseContent`](crate::words#issparsecontent), [`keyed`](crate::words#keyed), [`pairs`](crate::words#pairs-of-slotmap_sparse-content).
     #[inline]
     pub fn iter(&self) -> Iter<'_, K, V> {
         Iter {
@@ -263,10 +309,21 @@ impl<K: Key, V, S: BuildHasher> SparseSecondaryMap<K, V, S> {
     ///
     /// It costs the same as [`SparseSecondaryMap::iter`].
     ///
-    /// ```ignore
+    /// ```
+    /// # use slotmap_proved::{DefaultKey, Global, Key};
+    /// # use slotmap_proved::fallible::{SlotMap, SparseSecondaryMap};
+    /// # fn main() -> Result<(), Box<dyn std::error::Error>> {
+    /// # let alloc = Global;
+    /// # let mut primary: SlotMap<DefaultKey, u64> = SlotMap::new(alloc)?;
+    /// # let a = primary.insert(10)?;
+    /// # let b = primary.insert(20)?;
+    /// # let mut map: SparseSecondaryMap<DefaultKey, u64> = SparseSecondaryMap::new(alloc)?;
+    /// # map.insert(a, 1)?;
     /// for key in map.keys() {
     ///     assert_eq!(key, a);
     /// }
+    /// # Ok(())
+    /// # }
     /// ```
     ///
     /// # Proved
@@ -275,6 +332,8 @@ impl<K: Key, V, S: BuildHasher> SparseSecondaryMap<K, V, S> {
     /// ensures listing { IsKeyListing (keyed self.now.pairs) result }
     /// ensures valid { IsSparseContent self.now }
     /// ```
+    ///
+    /// Words: [`IsKeyListing`](crate::words#iskeylisting), [`IsSparseContent`](crate::words#issparsecontent), [`keyed`](crate::words#keyed), [`pairs`](crate::words#pairs-of-slotmap_sparse-content).
     #[inline]
     pub fn keys(&self) -> Keys<'_, K, V> {
         Keys { pairs: self.iter() }
@@ -284,10 +343,21 @@ impl<K: Key, V, S: BuildHasher> SparseSecondaryMap<K, V, S> {
     ///
     /// It costs the same as [`SparseSecondaryMap::iter`].
     ///
-    /// ```ignore
+    /// ```
+    /// # use slotmap_proved::{DefaultKey, Global, Key};
+    /// # use slotmap_proved::fallible::{SlotMap, SparseSecondaryMap};
+    /// # fn main() -> Result<(), Box<dyn std::error::Error>> {
+    /// # let alloc = Global;
+    /// # let mut primary: SlotMap<DefaultKey, u64> = SlotMap::new(alloc)?;
+    /// # let a = primary.insert(10)?;
+    /// # let b = primary.insert(20)?;
+    /// # let mut map: SparseSecondaryMap<DefaultKey, u64> = SparseSecondaryMap::new(alloc)?;
+    /// # map.insert(a, 1)?;
     /// for value in map.values() {
     ///     assert_eq!(*value, 1);
     /// }
+    /// # Ok(())
+    /// # }
     /// ```
     ///
     /// # Proved
@@ -296,6 +366,8 @@ impl<K: Key, V, S: BuildHasher> SparseSecondaryMap<K, V, S> {
     /// ensures listing { IsValueListing (keyed self.now.pairs) result }
     /// ensures valid { IsSparseContent self.now }
     /// ```
+    ///
+    /// Words: [`IsSparseContent`](crate::words#issparsecontent), [`IsValueListing`](crate::words#isvaluelisting), [`keyed`](crate::words#keyed), [`pairs`](crate::words#pairs-of-slotmap_sparse-content).
     #[inline]
     pub fn values(&self) -> Values<'_, K, V> {
         Values { pairs: self.iter() }

@@ -25,23 +25,41 @@ impl<K: Key, V, S: BuildHasher> SparseSecondaryMap<K, V, S> {
     /// an index from 4294967293 on, writes a list that `from_slots` rejects. In Rust `Serialize`
     /// writes the same records.
     ///
-    /// ```ignore
+    /// ```
+    /// # use slotmap_proved::{DefaultKey, Global, Key, list};
+    /// # use slotmap_proved::fallible::{SlotMap, SparseSecondaryMap};
+    /// # fn main() -> Result<(), Box<dyn std::error::Error>> {
+    /// # let alloc = Global;
+    /// # let mut primary: SlotMap<DefaultKey, u64> = SlotMap::new(alloc)?;
+    /// # let a = primary.insert(10)?;
+    /// # let b = primary.insert(20)?;
+    /// # let mut map: SparseSecondaryMap<DefaultKey, u64> = SparseSecondaryMap::new(alloc)?;
+    /// # map.insert(a, 1)?;
     /// let list = map.to_slots()?;
     /// let again: SparseSecondaryMap<DefaultKey, u64> =
     ///     SparseSecondaryMap::from_slots(alloc, list)?;
     /// assert!(again == map);
+    /// # Ok(())
+    /// # }
     /// ```
     ///
     /// # Proved
     ///
     /// ```text
     /// ensures writes { IfOk result (λ slots. WritesSparseClones V.is_clone self.now.pairs slots.items) }
-    /// ensures contents { IfOk result (λ slots. (k : Key) → IsCloneOf V.is_clone (get self.now.pairs k) (map.get (start_live slots.items) k)) }
+    /// ensures contents { IfOk result (λ slots.
+    ///     (k : Key) → IsCloneOf V.is_clone (get self.now.pairs k) (map.get (start_live slots.items) k)) }
+    ///
     /// // If a clone of a value always equals it, the list is that of the map itself.
-    /// ensures writes_if_clones_equal { IfOk result (λ slots. ClonesEqual V.is_clone → WritesSparse self.now.pairs slots.items) }
-    /// ensures contents_if_clones_equal { IfOk result (λ slots. ClonesEqual V.is_clone → start_live slots.items ≡ keyed self.now.pairs) }
+    /// ensures writes_if_clones_equal { IfOk result (λ slots.
+    ///     ClonesEqual V.is_clone → WritesSparse self.now.pairs slots.items) }
+    /// ensures contents_if_clones_equal { IfOk result (λ slots.
+    ///     ClonesEqual V.is_clone → start_live slots.items ≡ keyed self.now.pairs) }
+    ///
     /// ensures valid { IsSparseContent self.now }
     /// ```
+    ///
+    /// Words: [`ClonesEqual`](crate::words#clonesequal), [`get`](crate::words#get), [`IsCloneOf`](crate::words#iscloneof), [`IsSparseContent`](crate::words#issparsecontent), [`Key`](crate::words#key), [`keyed`](crate::words#keyed), [`pairs`](crate::words#pairs-of-slotmap_sparse-content), [`start_live`](crate::words#start_live), [`WritesSparse`](crate::words#writessparse), [`WritesSparseClones`](crate::words#writessparseclones).
     #[inline]
     pub fn to_slots(&self) -> Result<Vec<SlotRecord<V>>, OutOfMemory>
     where
@@ -103,21 +121,22 @@ impl<K: Key, V, S: BuildHasher> SparseSecondaryMap<K, V, S> {
     /// a list, for a hasher that has a default. For a list that a stranger wrote, use a
     /// `RandomState`.
     ///
-    /// ```ignore
-    /// let hasher = std::hash::RandomState::new(&rt)?;
+    /// ```
+    /// # use slotmap_proved::{DefaultKey, Global, Key, list};
+    /// # use slotmap_proved::fallible::{SlotMap, SparseSecondaryMap};
+    /// # fn main() -> Result<(), Box<dyn std::error::Error>> {
+    /// # let alloc = Global;
+    /// # let mut primary: SlotMap<DefaultKey, u64> = SlotMap::new(alloc)?;
+    /// # let a = primary.insert(10)?;
+    /// # let b = primary.insert(20)?;
+    /// # let mut map: SparseSecondaryMap<DefaultKey, u64> = SparseSecondaryMap::new(alloc)?;
+    /// # map.insert(a, 1)?;
+    /// let hasher = std::collections::hash_map::RandomState::new();
     /// let list = map.to_slots()?;
     /// let read = SparseSecondaryMap::from_slots_with_hasher(alloc, list, hasher)?;
     /// assert_eq!(read[a], 1);
-    /// ```
-    ///
-    /// # Proved
-    ///
-    /// ```text
-    /// ensures contents { IfOk result (λ made. keyed made.pairs ≡ start_live list.items) }
-    /// ensures valid { IfOk result IsSparseContent }
-    /// // When it fails: the first error that applies.
-    /// ensures accepted { IsOk result → Accepts list.items side_list_limit }
-    /// ensures err { IfErr result (RefusesStart list.items side_list_limit) }
+    /// # Ok(())
+    /// # }
     /// ```
     #[inline]
     pub fn from_slots_with_hasher(
@@ -158,12 +177,23 @@ impl<K: Key, V> SparseSecondaryMap<K, V> {
     /// It does the same as [`SparseSecondaryMap::from_slots_with_hasher`], at the same cost. Call
     /// that one if a stranger wrote the list: the default hasher's seed is fixed and public.
     ///
-    /// ```ignore
+    /// ```
+    /// # use slotmap_proved::{DefaultKey, Global, Key, list, SlotRecord};
+    /// # use slotmap_proved::fallible::{SlotMap, SparseSecondaryMap};
+    /// # fn main() -> Result<(), Box<dyn std::error::Error>> {
+    /// # let alloc = Global;
+    /// # let mut primary: SlotMap<DefaultKey, u64> = SlotMap::new(alloc)?;
+    /// # let a = primary.insert(10)?;
+    /// # let b = primary.insert(20)?;
+    /// # let mut map: SparseSecondaryMap<DefaultKey, u64> = SparseSecondaryMap::new(alloc)?;
+    /// # map.insert(a, 1)?;
     /// let list = vec![SlotRecord { value: None, version: 0 },
-    ///     SlotRecord { value: Some(5), version: 1 }]?;
+    ///     SlotRecord { value: Some(5), version: 1 }].into();
     /// let read: SparseSecondaryMap<DefaultKey, u64> =
     ///     SparseSecondaryMap::from_slots(alloc, list)?;
     /// assert_eq!(read.get(a).copied(), Some(5));
+    /// # Ok(())
+    /// # }
     /// ```
     ///
     /// # Proved
@@ -171,10 +201,13 @@ impl<K: Key, V> SparseSecondaryMap<K, V> {
     /// ```text
     /// ensures contents { IfOk result (λ made. keyed made.pairs ≡ start_live list.items) }
     /// ensures valid { IfOk result IsSparseContent }
+    ///
     /// // When it fails: the first error that applies.
     /// ensures accepted { IsOk result → Accepts list.items side_list_limit }
     /// ensures err { IfErr result (RefusesStart list.items side_list_limit) }
     /// ```
+    ///
+    /// Words: [`Accepts`](crate::words#accepts), [`IsSparseContent`](crate::words#issparsecontent), [`keyed`](crate::words#keyed), [`pairs`](crate::words#pairs-of-slotmap_sparse-content), [`RefusesStart`](crate::words#refusesstart), [`side_list_limit`](crate::words#side_list_limit), [`start_live`](crate::words#start_live).
     #[inline]
     pub fn from_slots(alloc: Global, list: Vec<SlotRecord<V>>) -> Result<Self, SlotsError> {
         SparseSecondaryMap::from_slots_with_hasher(alloc, list, BuildHasherDefault::new())

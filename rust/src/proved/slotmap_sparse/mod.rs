@@ -11,7 +11,7 @@
 //! Each example comes after these lines:
 //!
 //! ```text
-//! let alloc = rt.alloc();
+//! let alloc = Global;
 //! let mut primary: SlotMap<DefaultKey, u64> = SlotMap::new(alloc)?;
 //! let a = primary.insert(10)?;
 //! let b = primary.insert(20)?;
@@ -78,13 +78,24 @@ pub type DefaultHasher = BuildHasherDefault<FoldHasher>;
 ///
 /// The hash map below holds 2415919104 keys at most. Beyond that, calls fail as if memory ran out.
 ///
-/// ```ignore
+/// ```
+/// # use slotmap_proved::{DefaultKey, Global, Key};
+/// # use slotmap_proved::fallible::{SlotMap, SparseSecondaryMap};
+/// # fn main() -> Result<(), Box<dyn std::error::Error>> {
+/// # let alloc = Global;
+/// # let mut primary: SlotMap<DefaultKey, u64> = SlotMap::new(alloc)?;
+/// # let a = primary.insert(10)?;
+/// # let b = primary.insert(20)?;
+/// # let mut map: SparseSecondaryMap<DefaultKey, u64> = SparseSecondaryMap::new(alloc)?;
+/// # map.insert(a, 1)?;
 /// map.insert(b, 2)?;
 /// assert_eq!(primary[a], 10);
 /// assert_eq!(map[a], 1);
 /// primary.remove(b);
 /// let next = primary.insert(30)?;
 /// assert!(map.get(next).is_none());
+/// # Ok(())
+/// # }
 /// ```
 pub struct SparseSecondaryMap<K, V, S: BuildHasher = DefaultHasher> {
     // For each index the version of its key, and the value.
@@ -111,9 +122,20 @@ impl<K: Key, V> SparseSecondaryMap<K, V> {
     ///
     /// Allocates nothing and never fails. Takes constant time.
     ///
-    /// ```ignore
+    /// ```
+    /// # use slotmap_proved::{DefaultKey, Global, Key};
+    /// # use slotmap_proved::fallible::{SlotMap, SparseSecondaryMap};
+    /// # fn main() -> Result<(), Box<dyn std::error::Error>> {
+    /// # let alloc = Global;
+    /// # let mut primary: SlotMap<DefaultKey, u64> = SlotMap::new(alloc)?;
+    /// # let a = primary.insert(10)?;
+    /// # let b = primary.insert(20)?;
+    /// # let mut map: SparseSecondaryMap<DefaultKey, u64> = SparseSecondaryMap::new(alloc)?;
+    /// # map.insert(a, 1)?;
     /// let empty: SparseSecondaryMap<DefaultKey, u64> = SparseSecondaryMap::new(alloc)?;
     /// assert!(empty.is_empty());
+    /// # Ok(())
+    /// # }
     /// ```
     ///
     /// # Proved
@@ -123,6 +145,8 @@ impl<K: Key, V> SparseSecondaryMap<K, V> {
     /// ensures empty { IfOk result (λ made. made.pairs ≡ map.empty) }
     /// ensures valid { IfOk result IsSparseContent }
     /// ```
+    ///
+    /// Words: [`IsSparseContent`](crate::words#issparsecontent), [`pairs`](crate::words#pairs-of-slotmap_sparse-content).
     #[inline]
     pub fn new(alloc: Global) -> Result<Self, ReserveError> {
         SparseSecondaryMap::with_hasher(alloc, BuildHasherDefault::new())
@@ -133,10 +157,21 @@ impl<K: Key, V> SparseSecondaryMap<K, V> {
     /// Fails with `TooGreat` if and only if `capacity` exceeds 4294967295, else with `Memory` if
     /// the allocation fails. Takes time linear in `capacity`.
     ///
-    /// ```ignore
+    /// ```
+    /// # use slotmap_proved::{DefaultKey, Global, Key};
+    /// # use slotmap_proved::fallible::{SlotMap, SparseSecondaryMap};
+    /// # fn main() -> Result<(), Box<dyn std::error::Error>> {
+    /// # let alloc = Global;
+    /// # let mut primary: SlotMap<DefaultKey, u64> = SlotMap::new(alloc)?;
+    /// # let a = primary.insert(10)?;
+    /// # let b = primary.insert(20)?;
+    /// # let mut map: SparseSecondaryMap<DefaultKey, u64> = SparseSecondaryMap::new(alloc)?;
+    /// # map.insert(a, 1)?;
     /// let empty: SparseSecondaryMap<DefaultKey, u64> =
     ///     SparseSecondaryMap::with_capacity(alloc, 100)?;
     /// assert!(empty.capacity() >= 100);
+    /// # Ok(())
+    /// # }
     /// ```
     ///
     /// # Proved
@@ -148,6 +183,8 @@ impl<K: Key, V> SparseSecondaryMap<K, V> {
     /// ensures err { IfErr result (RefusesRoom capacity) }
     /// ensures valid { IfOk result IsSparseContent }
     /// ```
+    ///
+    /// Words: [`capacity`](crate::words#capacity-of-slotmap_sparse-content), [`IsSparseContent`](crate::words#issparsecontent), [`most_keys`](crate::words#most_keys), [`pairs`](crate::words#pairs-of-slotmap_sparse-content), [`RefusesRoom`](crate::words#refusesroom).
     #[inline]
     pub fn with_capacity(alloc: Global, capacity: usize) -> Result<Self, ReserveError> {
         SparseSecondaryMap::with_capacity_and_hasher(alloc, capacity, BuildHasherDefault::new())
@@ -159,11 +196,22 @@ impl<K: Key, V, S: BuildHasher> SparseSecondaryMap<K, V, S> {
     ///
     /// Allocates nothing and never fails. Takes constant time.
     ///
-    /// ```ignore
-    /// let hasher = std::hash::RandomState::new(&rt)?;
+    /// ```
+    /// # use slotmap_proved::{DefaultKey, Global, Key};
+    /// # use slotmap_proved::fallible::{SlotMap, SparseSecondaryMap};
+    /// # fn main() -> Result<(), Box<dyn std::error::Error>> {
+    /// # let alloc = Global;
+    /// # let mut primary: SlotMap<DefaultKey, u64> = SlotMap::new(alloc)?;
+    /// # let a = primary.insert(10)?;
+    /// # let b = primary.insert(20)?;
+    /// # let mut map: SparseSecondaryMap<DefaultKey, u64> = SparseSecondaryMap::new(alloc)?;
+    /// # map.insert(a, 1)?;
+    /// let hasher = std::collections::hash_map::RandomState::new();
     /// let mut safe = SparseSecondaryMap::with_hasher(alloc, hasher)?;
     /// safe.insert(a, 5)?;
     /// assert_eq!(safe[a], 5);
+    /// # Ok(())
+    /// # }
     /// ```
     ///
     /// # Proved
@@ -173,6 +221,8 @@ impl<K: Key, V, S: BuildHasher> SparseSecondaryMap<K, V, S> {
     /// ensures empty { IfOk result (λ made. made.pairs ≡ map.empty) }
     /// ensures valid { IfOk result IsSparseContent }
     /// ```
+    ///
+    /// Words: [`IsSparseContent`](crate::words#issparsecontent), [`pairs`](crate::words#pairs-of-slotmap_sparse-content).
     #[inline]
     pub fn with_hasher(alloc: Global, hash_builder: S) -> Result<Self, ReserveError> {
         Ok(SparseSecondaryMap::empty(alloc, hash_builder))
@@ -193,21 +243,22 @@ impl<K: Key, V, S: BuildHasher> SparseSecondaryMap<K, V, S> {
     /// Fails with `TooGreat` if and only if `capacity` exceeds 4294967295, else with `Memory` if
     /// the allocation fails. Takes time linear in `capacity`.
     ///
-    /// ```ignore
-    /// let hasher = std::hash::RandomState::new(&rt)?;
+    /// ```
+    /// # use slotmap_proved::{DefaultKey, Global, Key};
+    /// # use slotmap_proved::fallible::{SlotMap, SparseSecondaryMap};
+    /// # fn main() -> Result<(), Box<dyn std::error::Error>> {
+    /// # let alloc = Global;
+    /// # let mut primary: SlotMap<DefaultKey, u64> = SlotMap::new(alloc)?;
+    /// # let a = primary.insert(10)?;
+    /// # let b = primary.insert(20)?;
+    /// # let mut map: SparseSecondaryMap<DefaultKey, u64> = SparseSecondaryMap::new(alloc)?;
+    /// # map.insert(a, 1)?;
+    /// let hasher = std::collections::hash_map::RandomState::new();
     /// let mut safe = SparseSecondaryMap::with_capacity_and_hasher(alloc, 100, hasher)?;
     /// assert!(safe.capacity() >= 100);
     /// safe.insert(a, 5)?;
-    /// ```
-    ///
-    /// # Proved
-    ///
-    /// ```text
-    /// ensures empty { IfOk result (λ made. made.pairs ≡ map.empty) }
-    /// ensures capacity { IfOk result (λ made. capacity ≤ made.capacity) }
-    /// ensures fits { OnOk result (capacity ≤ most_keys) }
-    /// ensures err { IfErr result (RefusesRoom capacity) }
-    /// ensures valid { IfOk result IsSparseContent }
+    /// # Ok(())
+    /// # }
     /// ```
     #[inline]
     pub fn with_capacity_and_hasher(
@@ -233,10 +284,21 @@ impl<K: Key, V, S: BuildHasher> SparseSecondaryMap<K, V, S> {
 
     /// Returns the number of keys, in constant time.
     ///
-    /// ```ignore
+    /// ```
+    /// # use slotmap_proved::{DefaultKey, Global, Key};
+    /// # use slotmap_proved::fallible::{SlotMap, SparseSecondaryMap};
+    /// # fn main() -> Result<(), Box<dyn std::error::Error>> {
+    /// # let alloc = Global;
+    /// # let mut primary: SlotMap<DefaultKey, u64> = SlotMap::new(alloc)?;
+    /// # let a = primary.insert(10)?;
+    /// # let b = primary.insert(20)?;
+    /// # let mut map: SparseSecondaryMap<DefaultKey, u64> = SparseSecondaryMap::new(alloc)?;
+    /// # map.insert(a, 1)?;
     /// assert_eq!(map.len(), 1);
     /// map.remove(a);
     /// assert_eq!(map.len(), 0);
+    /// # Ok(())
+    /// # }
     /// ```
     ///
     /// # Proved
@@ -245,6 +307,8 @@ impl<K: Key, V, S: BuildHasher> SparseSecondaryMap<K, V, S> {
     /// ensures value { result ≡ map.len self.now.pairs }
     /// ensures valid { IsSparseContent self.now }
     /// ```
+    ///
+    /// Words: [`IsSparseContent`](crate::words#issparsecontent), [`pairs`](crate::words#pairs-of-slotmap_sparse-content).
     #[inline]
     pub fn len(&self) -> usize {
         self.slots.len()
@@ -252,10 +316,21 @@ impl<K: Key, V, S: BuildHasher> SparseSecondaryMap<K, V, S> {
 
     /// Returns whether the map has no key, in constant time.
     ///
-    /// ```ignore
+    /// ```
+    /// # use slotmap_proved::{DefaultKey, Global, Key};
+    /// # use slotmap_proved::fallible::{SlotMap, SparseSecondaryMap};
+    /// # fn main() -> Result<(), Box<dyn std::error::Error>> {
+    /// # let alloc = Global;
+    /// # let mut primary: SlotMap<DefaultKey, u64> = SlotMap::new(alloc)?;
+    /// # let a = primary.insert(10)?;
+    /// # let b = primary.insert(20)?;
+    /// # let mut map: SparseSecondaryMap<DefaultKey, u64> = SparseSecondaryMap::new(alloc)?;
+    /// # map.insert(a, 1)?;
     /// assert!(!map.is_empty());
     /// map.remove(a);
     /// assert!(map.is_empty());
+    /// # Ok(())
+    /// # }
     /// ```
     ///
     /// # Proved
@@ -264,6 +339,8 @@ impl<K: Key, V, S: BuildHasher> SparseSecondaryMap<K, V, S> {
     /// ensures value { IsTrue result ↔ (map.len self.now.pairs ≡ 0) }
     /// ensures valid { IsSparseContent self.now }
     /// ```
+    ///
+    /// Words: [`IsSparseContent`](crate::words#issparsecontent), [`pairs`](crate::words#pairs-of-slotmap_sparse-content).
     #[inline]
     pub fn is_empty(&self) -> bool {
         self.len() == 0
@@ -273,9 +350,20 @@ impl<K: Key, V, S: BuildHasher> SparseSecondaryMap<K, V, S> {
     ///
     /// An insert never fails while the map holds fewer keys.
     ///
-    /// ```ignore
+    /// ```
+    /// # use slotmap_proved::{DefaultKey, Global, Key};
+    /// # use slotmap_proved::fallible::{SlotMap, SparseSecondaryMap};
+    /// # fn main() -> Result<(), Box<dyn std::error::Error>> {
+    /// # let alloc = Global;
+    /// # let mut primary: SlotMap<DefaultKey, u64> = SlotMap::new(alloc)?;
+    /// # let a = primary.insert(10)?;
+    /// # let b = primary.insert(20)?;
+    /// # let mut map: SparseSecondaryMap<DefaultKey, u64> = SparseSecondaryMap::new(alloc)?;
+    /// # map.insert(a, 1)?;
     /// map.reserve(100)?;
     /// assert!(map.capacity() >= 101);
+    /// # Ok(())
+    /// # }
     /// ```
     ///
     /// # Proved
@@ -285,6 +373,8 @@ impl<K: Key, V, S: BuildHasher> SparseSecondaryMap<K, V, S> {
     /// ensures fits { map.len self.now.pairs ≤ result }
     /// ensures valid { IsSparseContent self.now }
     /// ```
+    ///
+    /// Words: [`capacity`](crate::words#capacity-of-slotmap_sparse-content), [`IsSparseContent`](crate::words#issparsecontent), [`pairs`](crate::words#pairs-of-slotmap_sparse-content).
     #[inline]
     pub fn capacity(&self) -> usize {
         self.slots.capacity()
@@ -297,10 +387,22 @@ impl<K: Key, V, S: BuildHasher> SparseSecondaryMap<K, V, S> {
     /// memory already, it never fails, and nothing changes. Takes constant time if there is memory
     /// already, else time linear in the new capacity.
     ///
-    /// ```ignore
+    /// ```
+    /// # use slotmap_proved::{DefaultKey, Global, Key};
+    /// # use slotmap_proved::fallible::{SlotMap, SparseSecondaryMap};
+    /// # use slotmap_proved::runs::run;
+    /// # fn main() -> Result<(), Box<dyn std::error::Error>> {
+    /// # let alloc = Global;
+    /// # let mut primary: SlotMap<DefaultKey, u64> = SlotMap::new(alloc)?;
+    /// # let a = primary.insert(10)?;
+    /// # let b = primary.insert(20)?;
+    /// # let mut map: SparseSecondaryMap<DefaultKey, u64> = SparseSecondaryMap::new(alloc)?;
+    /// # map.insert(a, 1)?;
     /// map.reserve(100)?;
     /// assert!(map.capacity() >= map.len() + 100);
     /// assert!(map.insert(b, 2).is_ok()); // can't run out of memory
+    /// # Ok(())
+    /// # }
     /// ```
     ///
     /// # Proved
@@ -309,6 +411,8 @@ impl<K: Key, V, S: BuildHasher> SparseSecondaryMap<K, V, S> {
     /// ensures makes_room { MakesSparseRoom additional self.old result self.new }
     /// ensures valid { IsSparseContent self.new }
     /// ```
+    ///
+    /// Words: [`IsSparseContent`](crate::words#issparsecontent), [`MakesSparseRoom`](crate::words#makessparseroom).
     #[inline]
     pub fn reserve(&mut self, additional: usize) -> Result<(), ReserveError> {
         if self.len().saturating_add(additional) > MOST_PAIRS {
@@ -324,10 +428,21 @@ impl<K: Key, V, S: BuildHasher> SparseSecondaryMap<K, V, S> {
     /// Does the same as [`SparseSecondaryMap::reserve`], which returns a `Result` here too. It
     /// costs the same.
     ///
-    /// ```ignore
+    /// ```
+    /// # use slotmap_proved::{DefaultKey, Global, Key, ReserveError};
+    /// # use slotmap_proved::fallible::{SlotMap, SparseSecondaryMap};
+    /// # fn main() -> Result<(), Box<dyn std::error::Error>> {
+    /// # let alloc = Global;
+    /// # let mut primary: SlotMap<DefaultKey, u64> = SlotMap::new(alloc)?;
+    /// # let a = primary.insert(10)?;
+    /// # let b = primary.insert(20)?;
+    /// # let mut map: SparseSecondaryMap<DefaultKey, u64> = SparseSecondaryMap::new(alloc)?;
+    /// # map.insert(a, 1)?;
     /// assert!(map.try_reserve(100).is_ok());
     /// let failed = map.try_reserve(4294967295);
     /// assert!(matches!(failed, Err(ReserveError::TooGreat)));
+    /// # Ok(())
+    /// # }
     /// ```
     ///
     /// # Proved
@@ -336,6 +451,8 @@ impl<K: Key, V, S: BuildHasher> SparseSecondaryMap<K, V, S> {
     /// ensures makes_room { MakesSparseRoom additional self.old result self.new }
     /// ensures valid { IsSparseContent self.new }
     /// ```
+    ///
+    /// Words: [`IsSparseContent`](crate::words#issparsecontent), [`MakesSparseRoom`](crate::words#makessparseroom).
     #[inline]
     pub fn try_reserve(&mut self, additional: usize) -> Result<(), ReserveError> {
         self.reserve(additional)

@@ -38,6 +38,8 @@ pub trait Listed: Sized {
     /// ensures reads { IfOk result (λ made. lists.reads list.items made) }
     /// ensures err { IfErr result (lists.refuses list.items) }
     /// ```
+    ///
+    /// Words: [`reads`](crate::words#reads-of-slotmap_hop-iter).
     fn from_slots(alloc: Global, list: Vec<SlotRecord<i32>>) -> Result<Self, SlotsError>;
 }
 
@@ -86,7 +88,8 @@ pub enum LoadError {
 /// # Proved
 ///
 /// ```text
-/// ensures { OnOk result ((text : List ℕ) × PrintsSlots M.lists map.now text × Appends (W.contents output.old) (W.contents output.new) text) }
+/// ensures { OnOk result ((text : List ℕ) × PrintsSlots M.lists map.now text
+///     × Appends (W.contents output.old) (W.contents output.new) text) }
 /// ```
 pub fn write_slots<M: Listed, W: Write>(map: &M, output: &mut W) -> io::Result<()> {
     let Ok(slots) = map.to_slots() else {
@@ -118,12 +121,6 @@ fn write_slot<W: Write>(output: &mut W, slot: &SlotRecord<i32>) -> io::Result<()
 /// Replaces the map by the one that the text describes, and writes `done`. If no map is read, the old
 /// one stays, and the reason is written. It fails only if the output can't be written; the map may be
 /// the new one then.
-///
-/// # Proved
-///
-/// ```text
-/// ensures { OnOk result ((text : List ℕ) × Loads M.lists map.old text map.new × Appends (W.contents output.old) (W.contents output.new) text) }
-/// ```
 pub fn load<M: Listed, W: Write>(
     alloc: Global,
     map: &mut M,

@@ -18,7 +18,8 @@ pub type LineReply = Reply<DefaultKey, i32, i32, OutOfMemory>;
 /// # Proved
 ///
 /// ```text
-/// ensures { OnOk result ((text : List ℕ) × PrintsReplies replies.items text × Appends (W.contents output.old) (W.contents output.new) text) }
+/// ensures { OnOk result ((text : List ℕ) × PrintsReplies replies.items text
+///     × Appends (W.contents output.old) (W.contents output.new) text) }
 /// ```
 pub fn write_replies<W: Write>(output: &mut W, replies: Vec<LineReply>) -> io::Result<()> {
     for reply in replies {
@@ -34,7 +35,8 @@ pub fn write_replies<W: Write>(output: &mut W, replies: Vec<LineReply>) -> io::R
 /// # Proved
 ///
 /// ```text
-/// ensures { OnOk result ((text : List ℕ) × IsReplyText reply.old text × Appends (W.contents output.old) (W.contents output.new) text) }
+/// ensures { OnOk result ((text : List ℕ) × IsReplyText reply.old text
+///     × Appends (W.contents output.old) (W.contents output.new) text) }
 /// ```
 pub fn write_reply<W: Write>(output: &mut W, reply: &mut LineReply) -> io::Result<()> {
     match reply {

@@ -37,23 +37,11 @@ use crate::rt::std::io::{BufWriter, Read, Write};
 /// ```ignore
 /// use slotmap_script::run_script;
 ///
-/// let words = vec![String::from_str(alloc, "basic")?]?;
+/// let words = vec![String::from_str(alloc, "basic")?].into();
 /// let mut script = "insert 5\nlen\n".as_bytes();
 /// let mut printed = Vec::new(alloc);
 /// assert_eq!(run_script(alloc, &words, &mut script, &mut printed), 0);
 /// assert_eq!(printed.as_slice(), "key 4294967297\nlen 1\n".as_bytes());
-/// ```
-///
-/// # Proved
-///
-/// ```text
-/// // What was printed, by the status. At 3 a write may have failed; so no clause says what was
-/// // printed then.
-/// ensures statuses { (result ≡ 0) ⊎ (result ≡ 2) ⊎ (result ≡ 3) }
-/// ensures runs { result ≡ 0 → (text : List ℕ) × Runs (list_map string_bytes words.now) (R.remaining input.old) text × Appends (W.contents output.old) (W.contents output.new) text }
-/// ensures refuses { result ≡ 2 → (text : List ℕ) × Refuses (list_map string_bytes words.now) (R.remaining input.old) text × Appends (W.contents output.old) (W.contents output.new) text }
-/// // Words that name no kind are refused before the input is read.
-/// ensures unread { kind_named (list_map string_bytes words.now) ≡ None → input.new ≡ input.old }
 /// ```
 pub fn run_script<R: Read, W: Write>(
     alloc: Global,
@@ -84,18 +72,6 @@ fn say_no_script<W: Write>(output: &mut W) -> u8 {
 ///
 /// There is no status if the output can't be written; after a write that failed nothing more is
 /// written. At each status all that was printed has left the buffer.
-///
-/// # Proved
-///
-/// ```text
-/// // What was printed, by the status.
-/// ensures statuses { IfSome result.0 (λ status. (status ≡ 0) ⊎ (status ≡ 2) ⊎ (status ≡ 3)) }
-/// ensures runs { result.0 ≡ Some 0 → (text : List ℕ) × Runs (list_map string_bytes words.now) (R.remaining input.old) text × Appends (writer_contents W.contents output) (W.contents result.1) text }
-/// ensures refuses { result.0 ≡ Some 2 → (text : List ℕ) × Refuses (list_map string_bytes words.now) (R.remaining input.old) text × Appends (writer_contents W.contents output) (W.contents result.1) text }
-/// ensures stops { result.0 ≡ Some 3 → (text : List ℕ) × StopsShort (list_map string_bytes words.now) (R.remaining input.old) text × Appends (writer_contents W.contents output) (W.contents result.1) text }
-/// // Words that name no kind are refused before the input is read.
-/// ensures unread { kind_named (list_map string_bytes words.now) ≡ None → input.new ≡ input.old }
-/// ```
 pub fn run_buffered<R: Read, W: Write>(
     alloc: Global,
     words: &[String],
@@ -180,9 +156,14 @@ fn run_hop<R: Read, W: Write>(alloc: Global, input: &mut R, output: &mut W) -> R
 /// # Proved
 ///
 /// ```text
-/// ensures ok { OnOk result ((script text : List ℕ) × AreRead (R.remaining input.old) script × PrintsAll (kind_of C.command_of C.replies_to M.lists (λ map. IsNew (M.content map))) script text × Appends (W.contents output.old) (W.contents output.new) text) }
-/// ensures err { IfErr result (StopsRun (kind_of C.command_of C.replies_to M.lists (λ map. IsNew (M.content map))) (R.remaining input.old) (Appends (W.contents output.old) (W.contents output.new))) }
+/// ensures ok { OnOk result ((script text : List ℕ) × AreRead (R.remaining input.old) script
+///     × PrintsAll (kind_of C.command_of C.replies_to M.lists (λ map. IsNew (M.content map))) script text
+///     × Appends (W.contents output.old) (W.contents output.new) text) }
+/// ensures err { IfErr result (StopsRun (kind_of C.command_of C.replies_to M.lists (λ map. IsNew (M.content map)))
+///     (R.remaining input.old) (Appends (W.contents output.old) (W.contents output.new))) }
 /// ```
+///
+/// Words: [`content`](crate::words#content-of-slotmap_dense-dense), [`IsNew`](crate::words#isnew).
 pub fn run_on<M, C, R, W>(alloc: Global, input: &mut R, output: &mut W) -> Result<(), Stop>
 where
     M: Primary<DefaultKey, i32> + Listed,
@@ -208,8 +189,11 @@ where
 /// # Proved
 ///
 /// ```text
-/// ensures ok { OnOk result ((text : List ℕ) × (last : M) × Prints C.replies_to M.lists (list_map stretch_of stretches.entry.items) map text last × Appends (W.contents output.old) (W.contents output.new) text) }
-/// ensures err { IfErr result (StopsStretches C.replies_to M.lists (list_map stretch_of stretches.entry.items) map (Appends (W.contents output.old) (W.contents output.new))) }
+/// ensures ok { OnOk result ((text : List ℕ) × (last : M)
+///     × Prints C.replies_to M.lists (list_map stretch_of stretches.entry.items) map text last
+///     × Appends (W.contents output.old) (W.contents output.new) text) }
+/// ensures err { IfErr result (StopsStretches C.replies_to M.lists (list_map stretch_of stretches.entry.items) map
+///     (Appends (W.contents output.old) (W.contents output.new))) }
 /// ```
 pub fn run_stretches<M, C, W>(
     alloc: Global,

@@ -35,13 +35,6 @@ enum Line<'a, C> {
 
 /// Parses every line of a script. The last line may lack its line feed. It fails with `BadLine` at the
 /// first line that isn't one of these commands, and with `NoScript` if memory runs out.
-///
-/// # Proved
-///
-/// ```text
-/// ensures ok { IfOk result (λ stretches. (said : List (Said C)) × SaidBy C.command_of (lines_of script.now) said × (map stretch_of stretches.items ≡ stretches_from [] said)) }
-/// ensures err { IfErr result (StopsParse C.command_of (lines_of script.now)) }
-/// ```
 pub fn parse<'a, M, C: Commands<M>>(
     alloc: Global,
     script: &'a [u8],

@@ -188,6 +188,8 @@ impl OddCursor {
     /// ```text
     /// ensures { result ≡ self.now.index }
     /// ```
+    ///
+    /// Words: [`index`](crate::words#index).
     #[inline]
     pub fn index(&self) -> usize {
         self.index

@@ -14,10 +14,16 @@ use crate::proved::slotmap_core::keys::{Key, KeyData};
 /// A key of this type can't be passed to a map of `DefaultKey`, nor the other way round. Rust lacks
 /// this type.
 ///
-/// ```ignore
+/// ```
+/// # use slotmap_proved::{Global, Key, NodeKey};
+/// # use slotmap_proved::fallible::SlotMap;
+/// # fn main() -> Result<(), Box<dyn std::error::Error>> {
+/// # let alloc = Global;
 /// let mut map: SlotMap<NodeKey, u64> = SlotMap::with_key(alloc)?;
 /// let key: NodeKey = map.insert(5)?;
 /// assert_eq!(map.get(key), Some(&5));
+/// # Ok(())
+/// # }
 /// ```
 #[derive(Clone, Copy, PartialEq, Eq, PartialOrd, Ord, Hash, Debug)]
 pub struct NodeKey(KeyData);

@@ -27,6 +27,8 @@ impl<P, L: Layout<P>> Slots<P, L> {
     /// ensures value { result ≡ map.contains_key self.now.live key }
     /// ensures valid { IsContent true self.now }
     /// ```
+    ///
+    /// Words: [`IsContent`](crate::words#iscontent), [`live`](crate::words#live).
     #[inline]
     pub fn contains_key(&self, key: KeyData) -> bool {
         let index = key.idx() as usize;
@@ -44,6 +46,8 @@ impl<P, L: Layout<P>> Slots<P, L> {
     /// ensures value { option_copied result ≡ map.get self.now.live key }
     /// ensures valid { IsContent true self.now }
     /// ```
+    ///
+    /// Words: [`IsContent`](crate::words#iscontent), [`live`](crate::words#live).
     #[inline]
     pub fn get(&self, key: KeyData) -> Option<&P> {
         let index = self.live_index(key)?;
@@ -59,6 +63,8 @@ impl<P, L: Layout<P>> Slots<P, L> {
     /// ensures value { map.get self.now.live key ≡ Some result.now }
     /// ensures valid { IsContent true self.now }
     /// ```
+    ///
+    /// Words: [`IsContent`](crate::words#iscontent), [`IsLive`](crate::words#islive), [`live`](crate::words#live).
     #[inline]
     pub(crate) fn get_unchecked(&self, key: KeyData) -> &P {
         self.layout.payload(key.idx() as usize)
@@ -75,6 +81,8 @@ impl<P, L: Layout<P>> Slots<P, L> {
     /// ensures value { map.get self.old.live key ≡ Some result.now }
     /// ensures valid { IsContent true self.old }
     /// ```
+    ///
+    /// Words: [`IsContent`](crate::words#iscontent), [`IsLive`](crate::words#islive), [`live`](crate::words#live).
     #[inline]
     pub(crate) fn get_unchecked_mut(&mut self, key: KeyData) -> &mut P {
         self.layout.payload_mut(key.idx() as usize)

@@ -20,6 +20,8 @@ impl<P: Clone, L: CopyLayout<P>> Slots<P, L> {
     /// ensures copies_if_clones_equal { IfOk result (λ copy. ClonesEqual P.is_clone → IsCopy self.now copy) }
     /// ensures valid { IfOk result (IsContent true) }
     /// ```
+    ///
+    /// Words: [`ClonesEqual`](crate::words#clonesequal), [`IsCloneBy`](crate::words#iscloneby), [`IsContent`](crate::words#iscontent), [`IsCopy`](crate::words#iscopy).
     #[inline]
     pub fn copy(&self) -> Result<Self, AllocError> {
         Ok(Slots {

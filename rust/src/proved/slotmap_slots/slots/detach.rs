@@ -21,6 +21,8 @@ impl<P, L: Layout<P>> Slots<P, L> {
     /// ensures live { self.new.live ≡ map.remove self.old.live key }
     /// ensures valid { StaysValid true self.old self.new }
     /// ```
+    ///
+    /// Words: [`Detaches`](crate::words#detaches), [`live`](crate::words#live), [`StaysValid`](crate::words#staysvalid).
     #[inline]
     pub fn detach(&mut self, key: KeyData) -> Option<P> {
         if self.contains_key(key) {
@@ -46,6 +48,8 @@ impl<P, L: Layout<P>> Slots<P, L> {
     /// ensures value { result ≡ set.contains self.now.detached key }
     /// ensures valid { IsContent true self.now }
     /// ```
+    ///
+    /// Words: [`IsContent`](crate::words#iscontent).
     #[inline]
     pub fn is_detached(&self, key: KeyData) -> bool {
         let index = key.idx() as usize;
@@ -67,6 +71,8 @@ impl<P, L: Layout<P>> Slots<P, L> {
     /// ensures reattaches { Reattaches self.old key payload self.new }
     /// ensures valid { StaysValid true self.old self.new }
     /// ```
+    ///
+    /// Words: [`IsDetached`](crate::words#isdetached), [`Reattaches`](crate::words#reattaches), [`StaysValid`](crate::words#staysvalid).
     #[inline]
     pub(crate) fn reattach(&mut self, key: KeyData, payload: P)
     where

@@ -17,6 +17,8 @@ impl<P, L: Layout<P>> Slots<P, L> {
     /// requires { 0 < self.now.room }
     /// ensures { result ≡ self.now.offer }
     /// ```
+    ///
+    /// Words: [`offer`](crate::words#offer), [`room`](crate::words#room-of-slotmap_core-content).
     #[inline]
     pub(crate) fn next_key(&self) -> KeyData {
         if self.first_vacant == 0 {
@@ -36,6 +38,8 @@ impl<P, L: Layout<P>> Slots<P, L> {
     /// ensures inserts { Inserts self.old self.old.offer payload self.new }
     /// ensures valid { StaysValid true self.old self.new }
     /// ```
+    ///
+    /// Words: [`Inserts`](crate::words#inserts), [`offer`](crate::words#offer), [`room`](crate::words#room-of-slotmap_core-content), [`StaysValid`](crate::words#staysvalid).
     #[inline(always)]
     pub(crate) fn fill(&mut self, payload: P) -> KeyData
     where

@@ -38,6 +38,8 @@ impl<P, L: Layout<P>> Slots<P, L> {
     /// ensures writes_if_clones_equal { IfOk result (λ list. ClonesEqual P.is_clone → Writes self.now list.items) }
     /// ensures contents_if_clones_equal { IfOk result (λ list. ClonesEqual P.is_clone → start_live list.items ≡ self.now.live) }
     /// ```
+    ///
+    /// Words: [`ClonesEqual`](crate::words#clonesequal), [`IsCloneOf`](crate::words#iscloneof), [`Key`](crate::words#key), [`live`](crate::words#live), [`start_live`](crate::words#start_live), [`Writes`](crate::words#writes), [`WritesClones`](crate::words#writesclones).
     #[inline]
     pub fn to_slots(&self) -> Result<Vec<SlotRecord<P>>, OutOfMemory>
     where
@@ -63,6 +65,8 @@ impl<P, L: Layout<P>> Slots<P, L> {
     /// ensures accepted { IsOk result → Accepts list.items list_limit }
     /// ensures err { IfErr result (RefusesStart list.items list_limit) }
     /// ```
+    ///
+    /// Words: [`Accepts`](crate::words#accepts), [`list_limit`](crate::words#list_limit), [`ReadsAs`](crate::words#readsas), [`RefusesStart`](crate::words#refusesstart), [`stack`](crate::words#stack), [`start_stack`](crate::words#start_stack).
     #[inline]
     pub fn from_slots(alloc: Global, list: Vec<SlotRecord<P>>) -> Result<Self, SlotsError> {
         check_slots(&list, LIST_LIMIT)?;

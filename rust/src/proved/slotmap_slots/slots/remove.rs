@@ -20,6 +20,8 @@ impl<P, L: Layout<P>> Slots<P, L> {
     /// ensures live { self.new.live ≡ map.remove self.old.live key }
     /// ensures valid { StaysValid true self.old self.new }
     /// ```
+    ///
+    /// Words: [`live`](crate::words#live), [`Removes`](crate::words#removes), [`StaysValid`](crate::words#staysvalid).
     #[inline]
     pub fn remove(&mut self, key: KeyData) -> Option<P> {
         if self.contains_key(key) {
@@ -39,6 +41,8 @@ impl<P, L: Layout<P>> Slots<P, L> {
     /// ensures removes { Removes self.old key self.new }
     /// ensures valid { StaysValid true self.old self.new }
     /// ```
+    ///
+    /// Words: [`IsLive`](crate::words#islive), [`live`](crate::words#live), [`Removes`](crate::words#removes), [`StaysValid`](crate::words#staysvalid).
     #[inline]
     pub(crate) fn take(&mut self, key: KeyData) -> P {
         let index = key.idx() as usize;

@@ -1,0 +1,107 @@
+"""The clauses of the sources as they stand there, with the comments and blank lines between them, as sections of rustdoc."""
+import functools
+import os
+import re
+import sys
+import textwrap
+
+TOP = os.path.dirname(os.path.dirname(os.path.dirname(os.path.abspath(__file__))))
+sys.dont_write_bytecode = True
+sys.path.insert(0, os.path.join(TOP, "docs"))
+
+from sources import CONTRACTS, items_of, read_items  # docs/sources.py
+
+from . import word_page
+
+BEGINS = re.compile(r"\s*(?:(?:requires|ensures|decreases)\b|//)")
+MAPS = ("slotmap_basic", "slotmap_dense", "slotmap_hop", "slotmap_secondary", "slotmap_sparse")
+# Traits whose impls say nothing of a call of the layer: views and tables of the proofs, and what one calls through a trait.
+NOT_CALLS = ("Model", "Drop", "Layout", "CopyLayout", "Primary", "Detaching", "Secondary")
+
+
+def parts_of(item):
+    """The header of a function, and its clauses with what stands between them: two lists of lines."""
+    for number, line in enumerate(item.lines):
+        if number and BEGINS.match(line):
+            return item.lines[:number], item.lines[number:]
+    return item.lines, []
+
+
+def bare(text):
+    """Clauses without comments and white space: by these the clauses of an erased function are found in the source."""
+    return re.sub(r"\s", "", re.sub(r"(?m)^\s*//.*", "", text))
+
+
+def text_of(lines):
+    return textwrap.dedent("\n".join(it.rstrip() for it in lines)).strip("\n").split("\n")
+
+
+def contract_of(impl):
+    """What an impl of a trait says of its calls: its ghost items that are a contract."""
+    kept = [it for it in impl.members if it.kind == "ghost" and it.name in CONTRACTS]
+    return [line for it in kept for line in [*it.lines, ""]][:-1]
+
+
+@functools.cache
+def functions_of(crate, path):
+    """The functions of a file that have clauses, by their names and clauses."""
+    name = f"crates/{crate}/src/{path}.rt"
+    with open(os.path.join(TOP, name), encoding="utf-8") as file:
+        lines = file.read().split("\n")
+    found, waiting = {}, read_items(name, lines, 0, len(lines), 0)
+    for item in waiting:
+        waiting += item.members
+        if item.kind == "fn" and parts_of(item)[1]:
+            found[item.name, bare("\n".join(parts_of(item)[1]))] = item
+    return found
+
+
+def section(path, code, said=""):
+    """The lines of a section: a heading, the clauses as text, and their words with links."""
+    lines = ["# Proved", "", *([said, ""] if said else []), "```text", *text_of(code), "```"]
+    words = word_page.links_of(path, "\n".join(code))
+    return [*lines, "", f"Words: {', '.join(words)}."] if words else lines
+
+
+def section_of(crate, path, name, clauses):
+    """The section of an erased function, from its source."""
+    item = functions_of(crate, path).get((name, bare("\n".join(clauses))))
+    return section(item.path, parts_of(item)[1]) if item else None
+
+
+def arms():
+    """For each call of the five maps: its crate, its type, its name, and its section, with the proved call's header."""
+    found = {}
+    for crate in MAPS:
+        public = {it.name for it in word_page.public_items(crate) if it.kind in ("struct", "enum")}
+        impls = [it for it in items_of(crate) if it.kind == "impl" and it.of in public]
+        plain = re.compile(r"(\w+::)*(" + "|".join(NOT_CALLS) + r")\b")
+        # What a type itself has comes before what it has by a trait, and a value before a reference to it.
+        impls.sort(key=lambda it: (bool(it.of_trait), " for &" in it.header()))
+        for impl in impls:
+            if plain.match(impl.of_trait): continue
+            contract = contract_of(impl)
+            for item in impl.members:
+                if item.kind != "fn" or not (item.public or impl.of_trait): continue
+                clauses = parts_of(item)[1]
+                if not clauses and not contract: continue
+                code = text_of(item.lines) + ([] if clauses else ["", *text_of(contract)])
+                found.setdefault((crate, impl.of, item.name), section(item.path, code, "What is proved of the call that this one makes:"))
+    return found
+
+
+HEAD = """// Written by the eraser: the clauses of the proved maps' calls, for the comments of the layer over them.
+// `#[doc = clauses!(slotmap_basic SlotMap insert)]` is the section of one call; a call that isn't here doesn't compile.
+#[rustfmt::skip]
+#[allow(unused_macros, unused_macro_rules)]
+macro_rules! clauses {
+"""
+
+
+def macro():
+    """The text of clauses.rs."""
+    out = [HEAD]
+    for (crate, kind, name), lines in sorted(arms().items()):
+        text = "\n".join(lines)
+        out.append(f'    ({crate} {kind} {name}) => {{ r##"\n{text}\n"## }};\n')
+    return "".join(out) + "}\n"
