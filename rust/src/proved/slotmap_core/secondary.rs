@@ -12,8 +12,8 @@ use crate::proved::slotmap_core::keys::Key;
 /// What `or_put` did.
 ///
 /// ```
-/// # use slotmap_proved::{DefaultKey, Global, Key, OrPut};
-/// # use slotmap_proved::fallible::{SecondaryMap, SlotMap};
+/// # use slotmap_proved::{DefaultKey, Global, Key};
+/// # use slotmap_proved::fallible::{OrPut, SecondaryMap, SlotMap};
 /// # fn main() -> Result<(), Box<dyn std::error::Error>> {
 /// # let alloc = Global;
 /// let mut map: SlotMap<DefaultKey, u64> = SlotMap::new(alloc)?;
@@ -39,7 +39,8 @@ pub enum OrPut<V> {
 /// The error of `try_entry`: the key has no entry, or memory ran out for its slot.
 ///
 /// ```
-/// # use slotmap_proved::{DefaultKey, Global, Key, NoEntry};
+/// # use slotmap_proved::{DefaultKey, Global, Key};
+/// # use slotmap_proved::errors::NoEntry;
 /// # use slotmap_proved::fallible::SecondaryMap;
 /// # fn main() -> Result<(), Box<dyn std::error::Error>> {
 /// # let alloc = Global;
@@ -65,8 +66,9 @@ pub enum NoEntry {
 /// hasher spreads the indices. Rust lacks this trait.
 ///
 /// ```
-/// # use slotmap_proved::{DefaultKey, Global, Key, Secondary};
+/// # use slotmap_proved::{DefaultKey, Global, Key};
 /// # use slotmap_proved::fallible::{SecondaryMap, SlotMap};
+/// # use slotmap_proved::runs::Secondary;
 /// # fn main() -> Result<(), Box<dyn std::error::Error>> {
 /// # let alloc = Global;
 /// let mut map: SlotMap<DefaultKey, u64> = SlotMap::new(alloc)?;
@@ -85,8 +87,9 @@ pub trait Secondary<K: Key, V: Sized> {
     /// Constant time.
     ///
     /// ```
-    /// # use slotmap_proved::{DefaultKey, Global, Key, Secondary};
+    /// # use slotmap_proved::{DefaultKey, Global, Key};
     /// # use slotmap_proved::fallible::SecondaryMap;
+    /// # use slotmap_proved::runs::Secondary;
     /// # fn main() -> Result<(), Box<dyn std::error::Error>> {
     /// # let alloc = Global;
     /// let side: SecondaryMap<DefaultKey, u64> = SecondaryMap::new(alloc)?;
@@ -108,8 +111,9 @@ pub trait Secondary<K: Key, V: Sized> {
     /// Constant time; in a sparse map only if the hasher spreads the indices.
     ///
     /// ```
-    /// # use slotmap_proved::{DefaultKey, Global, Key, Secondary};
+    /// # use slotmap_proved::{DefaultKey, Global, Key};
     /// # use slotmap_proved::fallible::{SecondaryMap, SlotMap};
+    /// # use slotmap_proved::runs::Secondary;
     /// # fn main() -> Result<(), Box<dyn std::error::Error>> {
     /// # let alloc = Global;
     /// let mut map: SlotMap<DefaultKey, u64> = SlotMap::new(alloc)?;
@@ -135,8 +139,9 @@ pub trait Secondary<K: Key, V: Sized> {
     /// Constant time; in a sparse map only if the hasher spreads the indices.
     ///
     /// ```
-    /// # use slotmap_proved::{DefaultKey, Global, Key, Secondary};
+    /// # use slotmap_proved::{DefaultKey, Global, Key};
     /// # use slotmap_proved::fallible::{SecondaryMap, SlotMap};
+    /// # use slotmap_proved::runs::Secondary;
     /// # fn main() -> Result<(), Box<dyn std::error::Error>> {
     /// # let alloc = Global;
     /// let mut map: SlotMap<DefaultKey, u64> = SlotMap::new(alloc)?;
@@ -166,8 +171,9 @@ pub trait Secondary<K: Key, V: Sized> {
     /// only if the key's entry is vacant.
     ///
     /// ```
-    /// # use slotmap_proved::{DefaultKey, Global, Key, Secondary};
+    /// # use slotmap_proved::{DefaultKey, Global, Key};
     /// # use slotmap_proved::fallible::{SecondaryMap, SlotMap};
+    /// # use slotmap_proved::runs::Secondary;
     /// # fn main() -> Result<(), Box<dyn std::error::Error>> {
     /// # let alloc = Global;
     /// let mut map: SlotMap<DefaultKey, u64> = SlotMap::new(alloc)?;
@@ -198,8 +204,9 @@ pub trait Secondary<K: Key, V: Sized> {
     /// Constant time; in a sparse map only if the hasher spreads the indices.
     ///
     /// ```
-    /// # use slotmap_proved::{DefaultKey, Global, Key, Secondary};
+    /// # use slotmap_proved::{DefaultKey, Global, Key};
     /// # use slotmap_proved::fallible::{SecondaryMap, SlotMap};
+    /// # use slotmap_proved::runs::Secondary;
     /// # fn main() -> Result<(), Box<dyn std::error::Error>> {
     /// # let alloc = Global;
     /// let mut map: SlotMap<DefaultKey, u64> = SlotMap::new(alloc)?;
@@ -227,8 +234,9 @@ pub trait Secondary<K: Key, V: Sized> {
     /// [`OrPut`] lists the results.
     ///
     /// ```
-    /// # use slotmap_proved::{DefaultKey, Global, Key, OrPut, Secondary};
-    /// # use slotmap_proved::fallible::{SecondaryMap, SlotMap};
+    /// # use slotmap_proved::{DefaultKey, Global, Key};
+    /// # use slotmap_proved::fallible::{OrPut, SecondaryMap, SlotMap};
+    /// # use slotmap_proved::runs::Secondary;
     /// # fn main() -> Result<(), Box<dyn std::error::Error>> {
     /// # let alloc = Global;
     /// let mut map: SlotMap<DefaultKey, u64> = SlotMap::new(alloc)?;
@@ -256,7 +264,8 @@ pub trait Secondary<K: Key, V: Sized> {
 /// run is given.
 ///
 /// ```
-/// # use slotmap_proved::{DefaultKey, Global, Key, OutOfMemory};
+/// # use slotmap_proved::{DefaultKey, Global, Key};
+/// # use slotmap_proved::errors::OutOfMemory;
 /// # use slotmap_proved::fallible::{SecondaryMap, SlotMap};
 /// # use slotmap_proved::runs::{run_secondary, SecondaryCommand, SecondaryReply};
 /// # fn main() -> Result<(), Box<dyn std::error::Error>> {
@@ -290,7 +299,8 @@ pub enum SecondaryCommand<K, V> {
 /// The reply to a command to a secondary map.
 ///
 /// ```
-/// # use slotmap_proved::{DefaultKey, Global, Key, OutOfMemory};
+/// # use slotmap_proved::{DefaultKey, Global, Key};
+/// # use slotmap_proved::errors::OutOfMemory;
 /// # use slotmap_proved::fallible::SecondaryMap;
 /// # use slotmap_proved::runs::{run_secondary, SecondaryCommand, SecondaryReply};
 /// # fn main() -> Result<(), Box<dyn std::error::Error>> {

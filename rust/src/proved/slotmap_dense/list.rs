@@ -105,8 +105,9 @@ impl<K: Key, V: Sized> DenseSlotMap<K, V> {
     /// slot wrap around.
     ///
     /// ```
-    /// # use slotmap_proved::{DefaultKey, Global, Key, KeyData, SlotRecord};
+    /// # use slotmap_proved::{DefaultKey, Global, Key, KeyData};
     /// # use slotmap_proved::fallible::{DenseSlotMap, Vec};
+    /// # use slotmap_proved::serial::SlotRecord;
     /// # fn main() -> Result<(), Box<dyn std::error::Error>> {
     /// # let alloc = Global;
     /// # let mut map: DenseSlotMap<DefaultKey, u64> = DenseSlotMap::new(alloc)?;

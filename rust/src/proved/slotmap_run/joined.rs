@@ -117,7 +117,8 @@ where
 /// Each command costs one call of one map.
 ///
 /// ```
-/// # use slotmap_proved::{DefaultKey, Key, OutOfMemory};
+/// # use slotmap_proved::{DefaultKey, Key};
+/// # use slotmap_proved::errors::OutOfMemory;
 /// # use slotmap_proved::fallible::{Global, SecondaryMap, SlotMap};
 /// # use slotmap_proved::runs::{JoinedCommand, JoinedReply, run_joined};
 /// # fn main() -> Result<(), Box<dyn std::error::Error>> {
@@ -232,7 +233,8 @@ where
 /// The closure, the numbers, the allocations, the failures and the cost are those of `run_joined`.
 ///
 /// ```
-/// # use slotmap_proved::{DefaultKey, Key, OutOfMemory};
+/// # use slotmap_proved::{DefaultKey, Key};
+/// # use slotmap_proved::errors::OutOfMemory;
 /// # use slotmap_proved::fallible::{Global, SecondaryMap, SlotMap};
 /// # use slotmap_proved::runs::{JoinedCommand, JoinedDetachCommand, JoinedReply, run_joined_detaching};
 /// # fn main() -> Result<(), Box<dyn std::error::Error>> {

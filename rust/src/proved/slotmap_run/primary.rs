@@ -96,7 +96,8 @@ where
 /// return.
 ///
 /// ```
-/// # use slotmap_proved::{DefaultKey, Key, OutOfMemory};
+/// # use slotmap_proved::{DefaultKey, Key};
+/// # use slotmap_proved::errors::OutOfMemory;
 /// # use slotmap_proved::fallible::{Global, SlotMap};
 /// # use slotmap_proved::runs::{Command, Reply, run};
 /// # fn main() -> Result<(), Box<dyn std::error::Error>> {
@@ -193,7 +194,8 @@ where
 /// return.
 ///
 /// ```
-/// # use slotmap_proved::{DefaultKey, Key, KeyData, OutOfMemory};
+/// # use slotmap_proved::{DefaultKey, Key, KeyData};
+/// # use slotmap_proved::errors::OutOfMemory;
 /// # use slotmap_proved::fallible::{Global, SlotMap};
 /// # use slotmap_proved::runs::{Command, Reply, run_new};
 /// # fn main() -> Result<(), Box<dyn std::error::Error>> {
@@ -298,7 +300,8 @@ where
 /// [`run`].
 ///
 /// ```
-/// # use slotmap_proved::{DefaultKey, Key, OutOfMemory};
+/// # use slotmap_proved::{DefaultKey, Key};
+/// # use slotmap_proved::errors::OutOfMemory;
 /// # use slotmap_proved::fallible::{Global, SlotMap};
 /// # use slotmap_proved::runs::{DetachCommand, Reply, run_detaching};
 /// # fn main() -> Result<(), Box<dyn std::error::Error>> {
@@ -385,7 +388,8 @@ where
 /// The closures, the allocations, the failures and the cost are those of `run_new`.
 ///
 /// ```
-/// # use slotmap_proved::{DefaultKey, Key, KeyData, OutOfMemory};
+/// # use slotmap_proved::{DefaultKey, Key, KeyData};
+/// # use slotmap_proved::errors::OutOfMemory;
 /// # use slotmap_proved::fallible::{Global, SlotMap};
 /// # use slotmap_proved::runs::{Command, DetachCommand, Reply, run_detaching_new};
 /// # fn main() -> Result<(), Box<dyn std::error::Error>> {

@@ -51,7 +51,8 @@ where
 /// Each command costs one call of the map.
 ///
 /// ```
-/// # use slotmap_proved::{DefaultKey, Key, KeyData, OutOfMemory};
+/// # use slotmap_proved::{DefaultKey, Key, KeyData};
+/// # use slotmap_proved::errors::OutOfMemory;
 /// # use slotmap_proved::fallible::{Global, SecondaryMap};
 /// # use slotmap_proved::runs::{run_secondary, SecondaryCommand, SecondaryReply};
 /// # fn main() -> Result<(), Box<dyn std::error::Error>> {
