@@ -1,5 +1,51 @@
-//! slotmap's five maps, and structures over them: proved source with its contracts taken out.
+//! The five maps of the crate [slotmap](https://docs.rs/slotmap) 1.1.1, and structures over them, in safe Rust whose calls are proved.
+//!
+//! ```
+//! use slotmap_proved::{SecondaryMap, SlotMap};
+//!
+//! let mut names = SlotMap::new();
+//! let river = names.insert("river");
+//! let mut lengths = SecondaryMap::new();
+//! lengths.insert(river, 246);
+//! assert_eq!((names[river], lengths[river]), ("river", 246));
+//! assert_eq!(names.remove(river), Some("river"));
+//! assert!(!names.contains_key(river));
+//! ```
+//!
+//! A program over slotmap compiles with its `use` lines changed, or with this line in its `Cargo.toml`:
+//! `slotmap = { package = "slotmap-proved", version = ".." }`. Each call says where it behaves otherwise.
+//!
+//! # What is proved
+//!
+//! The sources are written in Rattle, which is Rust with contracts. Each function is proved to meet its contract, for all values and all
+//! sequences of calls. So no key is made twice, a removed key never becomes live again, and a call does what its page says under "Proved".
+//! These clauses are text for a reader: rustc doesn't check them.
+//!
+//! # What is erased
+//!
+//! A script takes the contracts out. What is left is plain Rust, and the module that holds it is compiled as it stands there. The body of a
+//! call is the body that was proved. `python3 rust/erase.py --check` in the repository compares this crate's files with the sources, byte
+//! for byte; the proofs are checked there too.
+//!
+//! # What is trusted
+//!
+//! The script. The few hundred lines that stand in for Rattle's vector, hash map and allocator. And rustc with std, in place of Rattle's
+//! own compiler. Two parts aren't proved: the layer with slotmap's names, where each call hands on to a proved one, and the module `lent`,
+//! which lends several values at once (`iter_mut`, `values_mut`, `get_disjoint_mut`, and lists of slots for serde). All of it is safe code,
+//! so a fault there is a wrong answer or a panic, never undefined behaviour.
+//!
+//! # What a caller must keep to
+//!
+//! A contract may ask something of its caller; in Rust nobody proves that. So such a call tests it first, and panics with the reason: a key
+//! that isn't live never finds another value. `Key`, `Hash` and `Eq` of one's own types are to keep to their laws. One that doesn't gets
+//! wrong answers. If a closure, a clone or a drop panics in the middle of a call, the map can still be used.
+//!
+//! # Features
+//!
+//! `serde`: keys and maps in slotmap's format. `structures`: [`list`], [`lists`], [`graph`], [`paths`], [`scene`], [`entities`] and
+//! [`scheduler`]. `runs`: lists of commands for any map. `json`: keys and lists of slots as values of serde_json.
 #![forbid(unsafe_code)]
+#![warn(missing_docs)]
 #![allow(unexpected_cfgs)]
 
 #[macro_use]
@@ -19,35 +65,52 @@ mod rt;
 pub mod rt;
 
 mod key;
+mod lent;
 mod maps;
 mod sealed;
 pub mod words;
 #[cfg(feature = "serde")]
 mod serialize;
 
+#[doc(inline)]
 pub use maps::basic::{self, SlotMap};
+#[doc(inline)]
 pub use maps::dense::{self, DenseSlotMap};
+#[doc(inline)]
 pub use maps::hop::{self, HopSlotMap};
+#[doc(inline)]
 pub use maps::secondary::{self, SecondaryMap};
+#[doc(inline)]
 pub use maps::sparse_secondary::{self, SparseSecondaryMap};
-pub use proved::slotmap_core::errors::{InsertError, InsertWithError, JsonError, OutOfMemory, PutError, ReattachError, ReserveError, SlotsError, TryInsertError};
 pub use proved::slotmap_core::keys::{is_older_version, DefaultKey, Key, KeyData, NodeKey};
-pub use proved::slotmap_core::primary::{Detaching, Primary};
-pub use proved::slotmap_core::secondary::{NoEntry, OrPut, Secondary};
-pub use proved::slotmap_core::serial::{check_slots, SlotRecord};
 pub use rt::std::alloc::Global;
 
-/// The maps and the vector as the proved sources have them: the allocator comes first, and what allocates returns a `Result`.
+/// Why a call failed. An error holds the value that was to be stored.
+pub mod errors {
+    pub use crate::proved::slotmap_core::errors::{
+        InsertError, InsertWithError, OutOfMemory, PutError, ReattachError, ReserveError, SlotsError, TryInsertError,
+    };
+    pub use crate::proved::slotmap_core::secondary::NoEntry;
+}
+
+/// Lists of slots: a map as a list, by its `to_slots`, and back, by its `from_slots`.
+pub mod serial {
+    pub use crate::proved::slotmap_core::serial::{check_slots, SlotRecord};
+}
+
+/// The proved maps and the vector as they are: what allocates returns a `Result`, and what makes a map takes the allocator, [`Global`].
 ///
-/// The structures use these: the tables of an entity store, the costs of a search.
+/// The structures use these. A map of this crate turns into one of these by `into`, and back; `as_ref` lends it.
 pub mod fallible {
     pub use crate::proved::slotmap_basic as basic;
+    pub use crate::proved::slotmap_core::secondary::OrPut;
     pub use crate::proved::slotmap_dense as dense;
     pub use crate::proved::slotmap_hop as hop;
     pub use crate::proved::slotmap_secondary as secondary;
     pub use crate::proved::slotmap_sparse as sparse_secondary;
     pub use crate::rt::std::alloc::{AllocError, AllocFailed, Global};
     pub use crate::rt::vec::Vec;
+    pub use crate::rt::TryClone;
     #[doc(no_inline)]
     pub use basic::SlotMap;
     #[doc(no_inline)]
@@ -75,27 +138,41 @@ pub use proved::slotmap_scene as scene;
 #[cfg(feature = "structures")]
 pub use proved::slotmap_scheduler as scheduler;
 
-/// Runs of lists of commands on maps.
+/// Runs: lists of commands that a map serves one after the other, with a reply to each.
 #[cfg(feature = "runs")]
 pub mod runs {
     pub use crate::proved::slotmap_core::commands::{Command, DetachCommand, Reply};
     pub use crate::proved::slotmap_core::joined::{JoinedCommand, JoinedDetachCommand, JoinedReply};
-    pub use crate::proved::slotmap_core::secondary::{SecondaryCommand, SecondaryReply};
+    pub use crate::proved::slotmap_core::primary::{Detaching, Primary};
+    pub use crate::proved::slotmap_core::secondary::{Secondary, SecondaryCommand, SecondaryReply};
     pub use crate::proved::slotmap_run::joined::{run_joined, run_joined_detaching};
     pub use crate::proved::slotmap_run::primary::{run, run_detaching, run_detaching_new, run_new};
     pub use crate::proved::slotmap_run::secondary::run_secondary;
 }
 
+/// Keys and lists of slots as values of serde_json.
 #[cfg(feature = "json")]
-pub use proved::slotmap_json as json;
+pub mod json {
+    pub use crate::proved::slotmap_core::errors::JsonError;
+    pub use crate::proved::slotmap_json::{key_from_value, key_to_value, slot_from_value, slots_from_value, slots_to_value};
+}
+
+#[doc(hidden)]
+#[deprecated(note = "every type can be a value")]
+pub trait Slottable {}
+
+#[allow(deprecated)]
+impl<T> Slottable for T {}
 
 #[doc(hidden)]
 pub mod __impl {
     pub use std::convert::From;
     pub use std::result::Result;
+
     pub fn null() -> crate::KeyData {
         crate::KeyData::default()
     }
+
     #[cfg(feature = "serde")]
     pub use serde::{Deserialize, Deserializer, Serialize, Serializer};
 }

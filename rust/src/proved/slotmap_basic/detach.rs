@@ -54,7 +54,8 @@ impl<K: Key, V> SlotMap<K, V> {
     /// Rust panics. The call allocates nothing, so it never fails with `Memory`. Constant time.
     ///
     /// ```
-    /// # use slotmap_proved::{DefaultKey, Global, Key, ReattachError};
+    /// # use slotmap_proved::{DefaultKey, Global, Key};
+    /// # use slotmap_proved::errors::ReattachError;
     /// # use slotmap_proved::fallible::SlotMap;
     /// # fn main() -> Result<(), Box<dyn std::error::Error>> {
     /// # let alloc = Global;

@@ -131,7 +131,8 @@ impl<K: Key, V> SlotMap<K, V> {
     /// was called with. Costs as `insert`. In Rust the closure's error alone is returned.
     ///
     /// ```
-    /// # use slotmap_proved::{DefaultKey, Global, Key, TryInsertError};
+    /// # use slotmap_proved::{DefaultKey, Global, Key};
+    /// # use slotmap_proved::errors::TryInsertError;
     /// # use slotmap_proved::fallible::SlotMap;
     /// # fn main() -> Result<(), Box<dyn std::error::Error>> {
     /// # let alloc = Global;

@@ -86,8 +86,9 @@ impl<K: Key, V> SlotMap<K, V> {
     /// a vacant slot, so the versions of a slot wrap around.
     ///
     /// ```
-    /// # use slotmap_proved::{DefaultKey, Global, Key, KeyData, list, SlotRecord};
+    /// # use slotmap_proved::{DefaultKey, Global, Key, KeyData, list};
     /// # use slotmap_proved::fallible::{SlotMap, Vec};
+    /// # use slotmap_proved::serial::SlotRecord;
     /// # fn main() -> Result<(), Box<dyn std::error::Error>> {
     /// # let alloc = Global;
     /// # let mut map: SlotMap<DefaultKey, u64> = SlotMap::new(alloc)?;

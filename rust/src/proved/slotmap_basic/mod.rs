@@ -387,7 +387,8 @@ impl<K: Key, V> SlotMap<K, V> {
     /// `reserve`.
     ///
     /// ```
-    /// # use slotmap_proved::{DefaultKey, Global, Key, ReserveError};
+    /// # use slotmap_proved::{DefaultKey, Global, Key};
+    /// # use slotmap_proved::errors::ReserveError;
     /// # use slotmap_proved::fallible::SlotMap;
     /// # fn main() -> Result<(), Box<dyn std::error::Error>> {
     /// # let alloc = Global;

@@ -10,7 +10,8 @@ use crate::rt::prelude::*;
 /// that the run is given.
 ///
 /// ```
-/// # use slotmap_proved::{DefaultKey, Global, Key, OutOfMemory};
+/// # use slotmap_proved::{DefaultKey, Global, Key};
+/// # use slotmap_proved::errors::OutOfMemory;
 /// # use slotmap_proved::fallible::SlotMap;
 /// # use slotmap_proved::runs::{Command, Reply, run};
 /// # fn main() -> Result<(), Box<dyn std::error::Error>> {
@@ -54,7 +55,8 @@ pub enum Command<K, V> {
 /// A command to a map whose keys can be detached.
 ///
 /// ```
-/// # use slotmap_proved::{DefaultKey, Global, Key, OutOfMemory};
+/// # use slotmap_proved::{DefaultKey, Global, Key};
+/// # use slotmap_proved::errors::OutOfMemory;
 /// # use slotmap_proved::fallible::SlotMap;
 /// # use slotmap_proved::runs::{DetachCommand, Reply, run_detaching};
 /// # fn main() -> Result<(), Box<dyn std::error::Error>> {
@@ -81,7 +83,8 @@ pub enum DetachCommand<K, V> {
 /// The reply to a command.
 ///
 /// ```
-/// # use slotmap_proved::{DefaultKey, Global, Key, OutOfMemory};
+/// # use slotmap_proved::{DefaultKey, Global, Key};
+/// # use slotmap_proved::errors::OutOfMemory;
 /// # use slotmap_proved::fallible::SlotMap;
 /// # use slotmap_proved::runs::{Command, Reply, run};
 /// # fn main() -> Result<(), Box<dyn std::error::Error>> {

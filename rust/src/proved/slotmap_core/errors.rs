@@ -16,7 +16,8 @@ use crate::rt::std::fmt::Display;
 /// Memory ran out.
 ///
 /// ```
-/// # use slotmap_proved::{Global, Key, OutOfMemory};
+/// # use slotmap_proved::{Global, Key};
+/// # use slotmap_proved::errors::OutOfMemory;
 /// # fn main() -> Result<(), Box<dyn std::error::Error>> {
 /// # let alloc = Global;
 /// assert_eq!(format!("{OutOfMemory}").as_str(), "out of memory");
@@ -29,7 +30,8 @@ pub struct OutOfMemory;
 /// The error of an insert, with the value.
 ///
 /// ```
-/// # use slotmap_proved::{Global, InsertError, Key};
+/// # use slotmap_proved::{Global, Key};
+/// # use slotmap_proved::errors::InsertError;
 /// # fn main() -> Result<(), Box<dyn std::error::Error>> {
 /// # let alloc = Global;
 /// let error = InsertError::Full(5);
@@ -48,7 +50,8 @@ pub enum InsertError<V> {
 /// The error of an insert by a closure that returns a value. The closure wasn't called.
 ///
 /// ```
-/// # use slotmap_proved::{Global, InsertWithError, Key};
+/// # use slotmap_proved::{Global, Key};
+/// # use slotmap_proved::errors::InsertWithError;
 /// # fn main() -> Result<(), Box<dyn std::error::Error>> {
 /// # let alloc = Global;
 /// assert_eq!(format!("{}", InsertWithError::Full).as_str(), "full");
@@ -66,7 +69,8 @@ pub enum InsertWithError {
 /// The error of an insert by a closure that may fail. Only for `Closure` was the closure called.
 ///
 /// ```
-/// # use slotmap_proved::{Global, Key, TryInsertError};
+/// # use slotmap_proved::{Global, Key};
+/// # use slotmap_proved::errors::TryInsertError;
 /// # fn main() -> Result<(), Box<dyn std::error::Error>> {
 /// # let alloc = Global;
 /// let error: TryInsertError<&str> = TryInsertError::Closure("not now");
@@ -86,7 +90,8 @@ pub enum TryInsertError<E> {
 /// The error of `reattach`, with the value.
 ///
 /// ```
-/// # use slotmap_proved::{DefaultKey, Global, Key, ReattachError};
+/// # use slotmap_proved::{DefaultKey, Global, Key};
+/// # use slotmap_proved::errors::ReattachError;
 /// # use slotmap_proved::fallible::SlotMap;
 /// # fn main() -> Result<(), Box<dyn std::error::Error>> {
 /// # let alloc = Global;
@@ -106,7 +111,8 @@ pub enum ReattachError<V> {
 /// The error of a call that reserves room.
 ///
 /// ```
-/// # use slotmap_proved::{DefaultKey, Global, Key, ReserveError};
+/// # use slotmap_proved::{DefaultKey, Global, Key};
+/// # use slotmap_proved::errors::ReserveError;
 /// # use slotmap_proved::fallible::SlotMap;
 /// # fn main() -> Result<(), Box<dyn std::error::Error>> {
 /// # let alloc = Global;
@@ -126,7 +132,8 @@ pub enum ReserveError {
 /// The error of an insert into a secondary map, with the value. Memory ran out.
 ///
 /// ```
-/// # use slotmap_proved::{Global, Key, PutError};
+/// # use slotmap_proved::{Global, Key};
+/// # use slotmap_proved::errors::PutError;
 /// # fn main() -> Result<(), Box<dyn std::error::Error>> {
 /// # let alloc = Global;
 /// assert_eq!(format!("{}", PutError(5)).as_str(), "out of memory");
@@ -138,7 +145,8 @@ pub struct PutError<V>(pub V);
 /// The error of a list of slots that isn't read as a map.
 ///
 /// ```
-/// # use slotmap_proved::{Global, Key, SlotsError};
+/// # use slotmap_proved::{Global, Key};
+/// # use slotmap_proved::errors::SlotsError;
 /// # fn main() -> Result<(), Box<dyn std::error::Error>> {
 /// # let alloc = Global;
 /// let error = SlotsError::Inconsistent(3);
@@ -161,8 +169,8 @@ pub enum SlotsError {
 /// The error of JSON that isn't read as a key or as a list of slots.
 ///
 /// ```
-/// # use slotmap_proved::{DefaultKey, Global, JsonError, Key};
-/// # use slotmap_proved::json::key_from_value;
+/// # use slotmap_proved::{DefaultKey, Global, Key};
+/// # use slotmap_proved::json::{JsonError, key_from_value};
 /// # fn main() -> Result<(), Box<dyn std::error::Error>> {
 /// # let alloc = Global;
 /// let value = serde_json::json!([1, 2]);
@@ -185,7 +193,8 @@ impl<V> InsertError<V> {
     /// Constant time.
     ///
     /// ```
-    /// # use slotmap_proved::{Global, InsertError, Key};
+    /// # use slotmap_proved::{Global, Key};
+    /// # use slotmap_proved::errors::InsertError;
     /// # fn main() -> Result<(), Box<dyn std::error::Error>> {
     /// # let alloc = Global;
     /// assert_eq!(InsertError::Full(5).into_inner(), 5);
@@ -214,7 +223,8 @@ impl<V> InsertError<V> {
     /// One call of the closure.
     ///
     /// ```
-    /// # use slotmap_proved::{Global, InsertError, Key};
+    /// # use slotmap_proved::{Global, Key};
+    /// # use slotmap_proved::errors::InsertError;
     /// # fn main() -> Result<(), Box<dyn std::error::Error>> {
     /// # let alloc = Global;
     /// let error = InsertError::Full((5, "five")).map(|pair| pair.0);
@@ -246,7 +256,8 @@ impl<V> ReattachError<V> {
     /// Constant time.
     ///
     /// ```
-    /// # use slotmap_proved::{Global, Key, ReattachError};
+    /// # use slotmap_proved::{Global, Key};
+    /// # use slotmap_proved::errors::ReattachError;
     /// # fn main() -> Result<(), Box<dyn std::error::Error>> {
     /// # let alloc = Global;
     /// assert_eq!(ReattachError::NotDetached(5).into_inner(), 5);
@@ -274,7 +285,8 @@ impl<V> ReattachError<V> {
     /// One call of the closure.
     ///
     /// ```
-    /// # use slotmap_proved::{Global, Key, ReattachError};
+    /// # use slotmap_proved::{Global, Key};
+    /// # use slotmap_proved::errors::ReattachError;
     /// # fn main() -> Result<(), Box<dyn std::error::Error>> {
     /// # let alloc = Global;
     /// let error = ReattachError::NotDetached((5, "five")).map(|pair| pair.0);
@@ -306,7 +318,8 @@ impl<V> PutError<V> {
     /// One call of the closure.
     ///
     /// ```
-    /// # use slotmap_proved::{Global, Key, PutError};
+    /// # use slotmap_proved::{Global, Key};
+    /// # use slotmap_proved::errors::PutError;
     /// # fn main() -> Result<(), Box<dyn std::error::Error>> {
     /// # let alloc = Global;
     /// assert_eq!(PutError((5, "five")).map(|pair| pair.0).0, 5);

@@ -13,7 +13,8 @@ use crate::rt::prelude::*;
 /// is given. If the number names no key, nothing changes, and the reply is `NoKey` or `NoKeySecond`.
 ///
 /// ```
-/// # use slotmap_proved::{DefaultKey, Global, Key, OutOfMemory};
+/// # use slotmap_proved::{DefaultKey, Global, Key};
+/// # use slotmap_proved::errors::OutOfMemory;
 /// # use slotmap_proved::fallible::{SecondaryMap, SlotMap};
 /// # use slotmap_proved::runs::{JoinedCommand, JoinedReply, run_joined};
 /// # fn main() -> Result<(), Box<dyn std::error::Error>> {
@@ -46,7 +47,8 @@ pub enum JoinedCommand<V, W> {
 /// A command to a primary map whose keys can be detached and a secondary map beside it.
 ///
 /// ```
-/// # use slotmap_proved::{DefaultKey, Global, Key, OutOfMemory};
+/// # use slotmap_proved::{DefaultKey, Global, Key};
+/// # use slotmap_proved::errors::OutOfMemory;
 /// # use slotmap_proved::fallible::{SecondaryMap, SlotMap};
 /// # use slotmap_proved::runs::{JoinedCommand, JoinedDetachCommand, JoinedReply, run_joined_detaching};
 /// # fn main() -> Result<(), Box<dyn std::error::Error>> {
@@ -74,7 +76,8 @@ pub enum JoinedDetachCommand<V, W> {
 /// The reply to a joined command.
 ///
 /// ```
-/// # use slotmap_proved::{DefaultKey, Global, Key, OutOfMemory};
+/// # use slotmap_proved::{DefaultKey, Global, Key};
+/// # use slotmap_proved::errors::OutOfMemory;
 /// # use slotmap_proved::fallible::{SecondaryMap, SlotMap};
 /// # use slotmap_proved::runs::{JoinedCommand, JoinedReply, run_joined};
 /// # fn main() -> Result<(), Box<dyn std::error::Error>> {

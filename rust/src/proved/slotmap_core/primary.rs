@@ -25,8 +25,9 @@ use crate::rt::std::alloc::Global;
 /// the vectors grow. The methods of each map say more about cost. Rust lacks this trait.
 ///
 /// ```
-/// # use slotmap_proved::{DefaultKey, Global, Key, Primary};
+/// # use slotmap_proved::{DefaultKey, Global, Key};
 /// # use slotmap_proved::fallible::SlotMap;
+/// # use slotmap_proved::runs::Primary;
 /// # fn main() -> Result<(), Box<dyn std::error::Error>> {
 /// # let alloc = Global;
 /// let mut map: SlotMap<DefaultKey, u64> = Primary::with_key(alloc)?;
@@ -52,8 +53,9 @@ pub trait Primary<K: Key, V>: Sized {
     /// It fails only if memory runs out.
     ///
     /// ```
-    /// # use slotmap_proved::{Global, Key, NodeKey, Primary};
+    /// # use slotmap_proved::{Global, Key, NodeKey};
     /// # use slotmap_proved::fallible::SlotMap;
+    /// # use slotmap_proved::runs::Primary;
     /// # fn main() -> Result<(), Box<dyn std::error::Error>> {
     /// # let alloc = Global;
     /// let map: SlotMap<NodeKey, u64> = Primary::with_key(alloc)?;
@@ -80,8 +82,9 @@ pub trait Primary<K: Key, V>: Sized {
     /// 4294967294, and with `Memory` if memory runs out.
     ///
     /// ```
-    /// # use slotmap_proved::{Global, Key, NodeKey, Primary};
+    /// # use slotmap_proved::{Global, Key, NodeKey};
     /// # use slotmap_proved::fallible::SlotMap;
+    /// # use slotmap_proved::runs::Primary;
     /// # fn main() -> Result<(), Box<dyn std::error::Error>> {
     /// # let alloc = Global;
     /// let map: SlotMap<NodeKey, u64> = Primary::with_capacity_and_key(alloc, 10)?;
@@ -108,8 +111,9 @@ pub trait Primary<K: Key, V>: Sized {
     /// Returns the number of live keys.
     ///
     /// ```
-    /// # use slotmap_proved::{DefaultKey, Global, Key, Primary};
+    /// # use slotmap_proved::{DefaultKey, Global, Key};
     /// # use slotmap_proved::fallible::SlotMap;
+    /// # use slotmap_proved::runs::Primary;
     /// # fn main() -> Result<(), Box<dyn std::error::Error>> {
     /// # let alloc = Global;
     /// let mut map: SlotMap<DefaultKey, u64> = SlotMap::new(alloc)?;
@@ -132,8 +136,9 @@ pub trait Primary<K: Key, V>: Sized {
     /// Returns whether no key is live.
     ///
     /// ```
-    /// # use slotmap_proved::{DefaultKey, Global, Key, Primary};
+    /// # use slotmap_proved::{DefaultKey, Global, Key};
     /// # use slotmap_proved::fallible::SlotMap;
+    /// # use slotmap_proved::runs::Primary;
     /// # fn main() -> Result<(), Box<dyn std::error::Error>> {
     /// # let alloc = Global;
     /// let map: SlotMap<DefaultKey, u64> = SlotMap::new(alloc)?;
@@ -158,8 +163,9 @@ pub trait Primary<K: Key, V>: Sized {
     /// it counts.
     ///
     /// ```
-    /// # use slotmap_proved::{DefaultKey, Global, Key, Primary};
+    /// # use slotmap_proved::{DefaultKey, Global, Key};
     /// # use slotmap_proved::fallible::SlotMap;
+    /// # use slotmap_proved::runs::Primary;
     /// # fn main() -> Result<(), Box<dyn std::error::Error>> {
     /// # let alloc = Global;
     /// let map: SlotMap<DefaultKey, u64> = SlotMap::with_capacity(alloc, 10)?;
@@ -183,8 +189,9 @@ pub trait Primary<K: Key, V>: Sized {
     /// A removed or detached key isn't live, nor is the null key.
     ///
     /// ```
-    /// # use slotmap_proved::{DefaultKey, Global, Key, Primary};
+    /// # use slotmap_proved::{DefaultKey, Global, Key};
     /// # use slotmap_proved::fallible::SlotMap;
+    /// # use slotmap_proved::runs::Primary;
     /// # fn main() -> Result<(), Box<dyn std::error::Error>> {
     /// # let alloc = Global;
     /// let mut map: SlotMap<DefaultKey, u64> = SlotMap::new(alloc)?;
@@ -208,8 +215,9 @@ pub trait Primary<K: Key, V>: Sized {
     /// Returns the value of a live key, or `None` if the key isn't live.
     ///
     /// ```
-    /// # use slotmap_proved::{DefaultKey, Global, Key, Primary};
+    /// # use slotmap_proved::{DefaultKey, Global, Key};
     /// # use slotmap_proved::fallible::SlotMap;
+    /// # use slotmap_proved::runs::Primary;
     /// # fn main() -> Result<(), Box<dyn std::error::Error>> {
     /// # let alloc = Global;
     /// let mut map: SlotMap<DefaultKey, u64> = SlotMap::new(alloc)?;
@@ -237,8 +245,9 @@ pub trait Primary<K: Key, V>: Sized {
     /// stays.
     ///
     /// ```
-    /// # use slotmap_proved::{DefaultKey, Global, Key, Primary};
+    /// # use slotmap_proved::{DefaultKey, Global, Key};
     /// # use slotmap_proved::fallible::SlotMap;
+    /// # use slotmap_proved::runs::Primary;
     /// # fn main() -> Result<(), Box<dyn std::error::Error>> {
     /// # let alloc = Global;
     /// let mut map: SlotMap<DefaultKey, u64> = SlotMap::new(alloc)?;
@@ -270,8 +279,9 @@ pub trait Primary<K: Key, V>: Sized {
     /// nothing.
     ///
     /// ```
-    /// # use slotmap_proved::{DefaultKey, Global, Key, Primary};
+    /// # use slotmap_proved::{DefaultKey, Global, Key};
     /// # use slotmap_proved::fallible::SlotMap;
+    /// # use slotmap_proved::runs::Primary;
     /// # fn main() -> Result<(), Box<dyn std::error::Error>> {
     /// # let alloc = Global;
     /// let mut map: SlotMap<DefaultKey, u64> = SlotMap::new(alloc)?;
@@ -304,8 +314,10 @@ pub trait Primary<K: Key, V>: Sized {
     /// called.
     ///
     /// ```
-    /// # use slotmap_proved::{DefaultKey, Global, Key, Primary, TryInsertError};
+    /// # use slotmap_proved::{DefaultKey, Global, Key};
+    /// # use slotmap_proved::errors::TryInsertError;
     /// # use slotmap_proved::fallible::SlotMap;
+    /// # use slotmap_proved::runs::Primary;
     /// # fn main() -> Result<(), Box<dyn std::error::Error>> {
     /// # let alloc = Global;
     /// let mut map: SlotMap<DefaultKey, u64> = SlotMap::new(alloc)?;
@@ -348,8 +360,9 @@ pub trait Primary<K: Key, V>: Sized {
     /// It behaves as `try_insert_with_key`, with a closure that can't fail.
     ///
     /// ```
-    /// # use slotmap_proved::{DefaultKey, Global, Key, Primary};
+    /// # use slotmap_proved::{DefaultKey, Global, Key};
     /// # use slotmap_proved::fallible::SlotMap;
+    /// # use slotmap_proved::runs::Primary;
     /// # fn main() -> Result<(), Box<dyn std::error::Error>> {
     /// # let alloc = Global;
     /// let mut map: SlotMap<DefaultKey, u64> = SlotMap::new(alloc)?;
@@ -387,8 +400,9 @@ pub trait Primary<K: Key, V>: Sized {
     /// allocates nothing.
     ///
     /// ```
-    /// # use slotmap_proved::{DefaultKey, Global, Key, Primary};
+    /// # use slotmap_proved::{DefaultKey, Global, Key};
     /// # use slotmap_proved::fallible::SlotMap;
+    /// # use slotmap_proved::runs::Primary;
     /// # fn main() -> Result<(), Box<dyn std::error::Error>> {
     /// # let alloc = Global;
     /// let mut map: SlotMap<DefaultKey, u64> = SlotMap::new(alloc)?;
@@ -423,8 +437,9 @@ pub trait Primary<K: Key, V>: Sized {
     /// there is room already, the call succeeds and nothing changes.
     ///
     /// ```
-    /// # use slotmap_proved::{DefaultKey, Global, Key, Primary};
+    /// # use slotmap_proved::{DefaultKey, Global, Key};
     /// # use slotmap_proved::fallible::SlotMap;
+    /// # use slotmap_proved::runs::Primary;
     /// # fn main() -> Result<(), Box<dyn std::error::Error>> {
     /// # let alloc = Global;
     /// let mut map: SlotMap<DefaultKey, u64> = SlotMap::new(alloc)?;
@@ -450,8 +465,9 @@ pub trait Primary<K: Key, V>: Sized {
     /// Reserves room for `additional` more keys, as `reserve` does.
     ///
     /// ```
-    /// # use slotmap_proved::{DefaultKey, Global, Key, Primary};
+    /// # use slotmap_proved::{DefaultKey, Global, Key};
     /// # use slotmap_proved::fallible::SlotMap;
+    /// # use slotmap_proved::runs::Primary;
     /// # fn main() -> Result<(), Box<dyn std::error::Error>> {
     /// # let alloc = Global;
     /// let mut map: SlotMap<DefaultKey, u64> = SlotMap::new(alloc)?;
@@ -480,8 +496,9 @@ pub trait Primary<K: Key, V>: Sized {
     /// most linear in the number of slots. Allocates nothing.
     ///
     /// ```
-    /// # use slotmap_proved::{DefaultKey, Global, Key, Primary};
+    /// # use slotmap_proved::{DefaultKey, Global, Key};
     /// # use slotmap_proved::fallible::SlotMap;
+    /// # use slotmap_proved::runs::Primary;
     /// # fn main() -> Result<(), Box<dyn std::error::Error>> {
     /// # let alloc = Global;
     /// let mut map: SlotMap<DefaultKey, u64> = SlotMap::new(alloc)?;
@@ -516,8 +533,9 @@ pub trait Primary<K: Key, V>: Sized {
     /// At most linear in the number of slots. Allocates nothing.
     ///
     /// ```
-    /// # use slotmap_proved::{DefaultKey, Global, Key, Primary};
+    /// # use slotmap_proved::{DefaultKey, Global, Key};
     /// # use slotmap_proved::fallible::SlotMap;
+    /// # use slotmap_proved::runs::Primary;
     /// # fn main() -> Result<(), Box<dyn std::error::Error>> {
     /// # let alloc = Global;
     /// let mut map: SlotMap<DefaultKey, u64> = SlotMap::new(alloc)?;
@@ -547,8 +565,9 @@ pub trait Primary<K: Key, V>: Sized {
     /// linear in the number of slots, and in the length of `out` if it has to grow.
     ///
     /// ```
-    /// # use slotmap_proved::{DefaultKey, Global, Key, Primary};
+    /// # use slotmap_proved::{DefaultKey, Global, Key};
     /// # use slotmap_proved::fallible::{SlotMap, Vec};
+    /// # use slotmap_proved::runs::Primary;
     /// # fn main() -> Result<(), Box<dyn std::error::Error>> {
     /// # let alloc = Global;
     /// let mut map: SlotMap<DefaultKey, u64> = SlotMap::new(alloc)?;
@@ -584,8 +603,9 @@ pub trait Primary<K: Key, V>: Sized {
     /// number of slots, and in the length of `out` if it has to grow.
     ///
     /// ```
-    /// # use slotmap_proved::{DefaultKey, Global, Key, Primary};
+    /// # use slotmap_proved::{DefaultKey, Global, Key};
     /// # use slotmap_proved::fallible::{SlotMap, Vec};
+    /// # use slotmap_proved::runs::Primary;
     /// # fn main() -> Result<(), Box<dyn std::error::Error>> {
     /// # let alloc = Global;
     /// let mut map: SlotMap<DefaultKey, u64> = SlotMap::new(alloc)?;
@@ -617,8 +637,9 @@ pub trait Primary<K: Key, V>: Sized {
 /// again. Such a map reuses the slot freed last first. Rust lacks this trait.
 ///
 /// ```
-/// # use slotmap_proved::{DefaultKey, Detaching, Global, Key};
+/// # use slotmap_proved::{DefaultKey, Global, Key};
 /// # use slotmap_proved::fallible::SlotMap;
+/// # use slotmap_proved::runs::Detaching;
 /// # fn main() -> Result<(), Box<dyn std::error::Error>> {
 /// # let alloc = Global;
 /// let mut map: SlotMap<DefaultKey, u64> = SlotMap::new(alloc)?;
@@ -639,8 +660,9 @@ pub trait Detaching<K: Key, V>: Primary<K, V> {
     /// call allocates nothing.
     ///
     /// ```
-    /// # use slotmap_proved::{DefaultKey, Detaching, Global, Key};
+    /// # use slotmap_proved::{DefaultKey, Global, Key};
     /// # use slotmap_proved::fallible::SlotMap;
+    /// # use slotmap_proved::runs::Detaching;
     /// # fn main() -> Result<(), Box<dyn std::error::Error>> {
     /// # let alloc = Global;
     /// let mut map: SlotMap<DefaultKey, u64> = SlotMap::new(alloc)?;
@@ -672,8 +694,10 @@ pub trait Detaching<K: Key, V>: Primary<K, V> {
     /// A map with `REUSES` never fails with `Memory`. The error holds the value.
     ///
     /// ```
-    /// # use slotmap_proved::{DefaultKey, Detaching, Global, Key, ReattachError};
+    /// # use slotmap_proved::{DefaultKey, Global, Key};
+    /// # use slotmap_proved::errors::ReattachError;
     /// # use slotmap_proved::fallible::SlotMap;
+    /// # use slotmap_proved::runs::Detaching;
     /// # fn main() -> Result<(), Box<dyn std::error::Error>> {
     /// # let alloc = Global;
     /// let mut map: SlotMap<DefaultKey, u64> = SlotMap::new(alloc)?;

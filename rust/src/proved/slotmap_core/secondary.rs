@@ -13,8 +13,8 @@ use crate::proved::slotmap_core::keys::Key;
 /// What `or_put` did.
 ///
 /// ```
-/// # use slotmap_proved::{DefaultKey, Global, Key, OrPut};
-/// # use slotmap_proved::fallible::{SecondaryMap, SlotMap};
+/// # use slotmap_proved::{DefaultKey, Global, Key};
+/// # use slotmap_proved::fallible::{OrPut, SecondaryMap, SlotMap};
 /// # fn main() -> Result<(), Box<dyn std::error::Error>> {
 /// # let alloc = Global;
 /// let mut map: SlotMap<DefaultKey, u64> = SlotMap::new(alloc)?;
@@ -40,7 +40,8 @@ pub enum OrPut<V> {
 /// The error of `try_entry`: the key has no entry, or memory ran out for its slot.
 ///
 /// ```
-/// # use slotmap_proved::{DefaultKey, Global, Key, NoEntry};
+/// # use slotmap_proved::{DefaultKey, Global, Key};
+/// # use slotmap_proved::errors::NoEntry;
 /// # use slotmap_proved::fallible::SecondaryMap;
 /// # fn main() -> Result<(), Box<dyn std::error::Error>> {
 /// # let alloc = Global;
@@ -66,8 +67,9 @@ pub enum NoEntry {
 /// hasher spreads the indices. Rust lacks this trait.
 ///
 /// ```
-/// # use slotmap_proved::{DefaultKey, Global, Key, Secondary};
+/// # use slotmap_proved::{DefaultKey, Global, Key};
 /// # use slotmap_proved::fallible::{SecondaryMap, SlotMap};
+/// # use slotmap_proved::runs::Secondary;
 /// # fn main() -> Result<(), Box<dyn std::error::Error>> {
 /// # let alloc = Global;
 /// let mut map: SlotMap<DefaultKey, u64> = SlotMap::new(alloc)?;
@@ -88,8 +90,9 @@ pub trait Secondary<K: Key, V> {
     /// Constant time.
     ///
     /// ```
-    /// # use slotmap_proved::{DefaultKey, Global, Key, Secondary};
+    /// # use slotmap_proved::{DefaultKey, Global, Key};
     /// # use slotmap_proved::fallible::SecondaryMap;
+    /// # use slotmap_proved::runs::Secondary;
     /// # fn main() -> Result<(), Box<dyn std::error::Error>> {
     /// # let alloc = Global;
     /// let side: SecondaryMap<DefaultKey, u64> = SecondaryMap::new(alloc)?;
@@ -113,8 +116,9 @@ pub trait Secondary<K: Key, V> {
     /// Constant time; in a sparse map only if the hasher spreads the indices.
     ///
     /// ```
-    /// # use slotmap_proved::{DefaultKey, Global, Key, Secondary};
+    /// # use slotmap_proved::{DefaultKey, Global, Key};
     /// # use slotmap_proved::fallible::{SecondaryMap, SlotMap};
+    /// # use slotmap_proved::runs::Secondary;
     /// # fn main() -> Result<(), Box<dyn std::error::Error>> {
     /// # let alloc = Global;
     /// let mut map: SlotMap<DefaultKey, u64> = SlotMap::new(alloc)?;
@@ -142,8 +146,9 @@ pub trait Secondary<K: Key, V> {
     /// Constant time; in a sparse map only if the hasher spreads the indices.
     ///
     /// ```
-    /// # use slotmap_proved::{DefaultKey, Global, Key, Secondary};
+    /// # use slotmap_proved::{DefaultKey, Global, Key};
     /// # use slotmap_proved::fallible::{SecondaryMap, SlotMap};
+    /// # use slotmap_proved::runs::Secondary;
     /// # fn main() -> Result<(), Box<dyn std::error::Error>> {
     /// # let alloc = Global;
     /// let mut map: SlotMap<DefaultKey, u64> = SlotMap::new(alloc)?;
@@ -175,8 +180,9 @@ pub trait Secondary<K: Key, V> {
     /// only if the key's entry is vacant.
     ///
     /// ```
-    /// # use slotmap_proved::{DefaultKey, Global, Key, Secondary};
+    /// # use slotmap_proved::{DefaultKey, Global, Key};
     /// # use slotmap_proved::fallible::{SecondaryMap, SlotMap};
+    /// # use slotmap_proved::runs::Secondary;
     /// # fn main() -> Result<(), Box<dyn std::error::Error>> {
     /// # let alloc = Global;
     /// let mut map: SlotMap<DefaultKey, u64> = SlotMap::new(alloc)?;
@@ -209,8 +215,9 @@ pub trait Secondary<K: Key, V> {
     /// Constant time; in a sparse map only if the hasher spreads the indices.
     ///
     /// ```
-    /// # use slotmap_proved::{DefaultKey, Global, Key, Secondary};
+    /// # use slotmap_proved::{DefaultKey, Global, Key};
     /// # use slotmap_proved::fallible::{SecondaryMap, SlotMap};
+    /// # use slotmap_proved::runs::Secondary;
     /// # fn main() -> Result<(), Box<dyn std::error::Error>> {
     /// # let alloc = Global;
     /// let mut map: SlotMap<DefaultKey, u64> = SlotMap::new(alloc)?;
@@ -240,8 +247,9 @@ pub trait Secondary<K: Key, V> {
     /// [`OrPut`] lists the results.
     ///
     /// ```
-    /// # use slotmap_proved::{DefaultKey, Global, Key, OrPut, Secondary};
-    /// # use slotmap_proved::fallible::{SecondaryMap, SlotMap};
+    /// # use slotmap_proved::{DefaultKey, Global, Key};
+    /// # use slotmap_proved::fallible::{OrPut, SecondaryMap, SlotMap};
+    /// # use slotmap_proved::runs::Secondary;
     /// # fn main() -> Result<(), Box<dyn std::error::Error>> {
     /// # let alloc = Global;
     /// let mut map: SlotMap<DefaultKey, u64> = SlotMap::new(alloc)?;
@@ -271,7 +279,8 @@ pub trait Secondary<K: Key, V> {
 /// run is given.
 ///
 /// ```
-/// # use slotmap_proved::{DefaultKey, Global, Key, OutOfMemory};
+/// # use slotmap_proved::{DefaultKey, Global, Key};
+/// # use slotmap_proved::errors::OutOfMemory;
 /// # use slotmap_proved::fallible::{SecondaryMap, SlotMap};
 /// # use slotmap_proved::runs::{run_secondary, SecondaryCommand, SecondaryReply};
 /// # fn main() -> Result<(), Box<dyn std::error::Error>> {
@@ -305,7 +314,8 @@ pub enum SecondaryCommand<K, V> {
 /// The reply to a command to a secondary map.
 ///
 /// ```
-/// # use slotmap_proved::{DefaultKey, Global, Key, OutOfMemory};
+/// # use slotmap_proved::{DefaultKey, Global, Key};
+/// # use slotmap_proved::errors::OutOfMemory;
 /// # use slotmap_proved::fallible::SecondaryMap;
 /// # use slotmap_proved::runs::{run_secondary, SecondaryCommand, SecondaryReply};
 /// # fn main() -> Result<(), Box<dyn std::error::Error>> {

@@ -64,7 +64,9 @@ impl<V> SlotRecord<V> {
 /// It never fails with `Memory`. At most one pass over the list. Rust lacks this call.
 ///
 /// ```
-/// # use slotmap_proved::{check_slots, Global, Key, list, SlotRecord, SlotsError};
+/// # use slotmap_proved::{Global, Key, list};
+/// # use slotmap_proved::errors::SlotsError;
+/// # use slotmap_proved::serial::{check_slots, SlotRecord};
 /// # fn main() -> Result<(), Box<dyn std::error::Error>> {
 /// # let alloc = Global;
 /// let list = [

@@ -61,7 +61,8 @@ impl<K: Key, V> DenseSlotMap<K, V> {
     /// vectors grow.
     ///
     /// ```
-    /// # use slotmap_proved::{DefaultKey, Global, Key, ReattachError};
+    /// # use slotmap_proved::{DefaultKey, Global, Key};
+    /// # use slotmap_proved::errors::ReattachError;
     /// # use slotmap_proved::fallible::DenseSlotMap;
     /// # fn main() -> Result<(), Box<dyn std::error::Error>> {
     /// # let alloc = Global;

@@ -107,8 +107,9 @@ impl<K: Key, V> DenseSlotMap<K, V> {
     /// slot wrap around.
     ///
     /// ```
-    /// # use slotmap_proved::{DefaultKey, Global, Key, KeyData, list, SlotRecord};
+    /// # use slotmap_proved::{DefaultKey, Global, Key, KeyData, list};
     /// # use slotmap_proved::fallible::{DenseSlotMap, Vec};
+    /// # use slotmap_proved::serial::SlotRecord;
     /// # fn main() -> Result<(), Box<dyn std::error::Error>> {
     /// # let alloc = Global;
     /// # let mut map: DenseSlotMap<DefaultKey, u64> = DenseSlotMap::new(alloc)?;

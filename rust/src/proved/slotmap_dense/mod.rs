@@ -416,7 +416,8 @@ impl<K: Key, V> DenseSlotMap<K, V> {
     /// `reserve`.
     ///
     /// ```
-    /// # use slotmap_proved::{DefaultKey, Global, Key, ReserveError};
+    /// # use slotmap_proved::{DefaultKey, Global, Key};
+    /// # use slotmap_proved::errors::ReserveError;
     /// # use slotmap_proved::fallible::DenseSlotMap;
     /// # fn main() -> Result<(), Box<dyn std::error::Error>> {
     /// # let alloc = Global;

@@ -120,8 +120,9 @@ impl<K: Key, V> HopSlotMap<K, V> {
     /// a vacant slot, so the versions of a slot wrap around.
     ///
     /// ```
-    /// # use slotmap_proved::{DefaultKey, Global, Key, KeyData, list, SlotRecord};
+    /// # use slotmap_proved::{DefaultKey, Global, Key, KeyData, list};
     /// # use slotmap_proved::fallible::{HopSlotMap, Vec};
+    /// # use slotmap_proved::serial::SlotRecord;
     /// # fn main() -> Result<(), Box<dyn std::error::Error>> {
     /// # let alloc = Global;
     /// # let mut map: HopSlotMap<DefaultKey, u64> = HopSlotMap::new(alloc)?;

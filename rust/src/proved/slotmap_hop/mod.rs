@@ -415,7 +415,8 @@ impl<K: Key, V> HopSlotMap<K, V> {
     /// `reserve`.
     ///
     /// ```
-    /// # use slotmap_proved::{DefaultKey, Global, Key, ReserveError};
+    /// # use slotmap_proved::{DefaultKey, Global, Key};
+    /// # use slotmap_proved::errors::ReserveError;
     /// # use slotmap_proved::fallible::HopSlotMap;
     /// # fn main() -> Result<(), Box<dyn std::error::Error>> {
     /// # let alloc = Global;

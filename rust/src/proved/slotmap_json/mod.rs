@@ -102,8 +102,9 @@ fn u32_member(value: &Value, name: &str) -> Option<u32> {
 /// called at most once for each value, in order.
 ///
 /// ```
-/// # use slotmap_proved::{Global, Key, list, SlotRecord};
+/// # use slotmap_proved::{Global, Key, list};
 /// # use slotmap_proved::json::slots_to_value;
+/// # use slotmap_proved::serial::SlotRecord;
 /// # use serde_json::Value;
 /// # fn main() -> Result<(), Box<dyn std::error::Error>> {
 /// # let alloc = Global;
@@ -172,8 +173,8 @@ fn slot_value(alloc: Global, value: Value, version: u32) -> Result<Value, OutOfM
 /// `g` is called at most once for each element.
 ///
 /// ```
-/// # use slotmap_proved::{Global, JsonError, Key, list};
-/// # use slotmap_proved::json::slots_from_value;
+/// # use slotmap_proved::{Global, Key, list};
+/// # use slotmap_proved::json::{JsonError, slots_from_value};
 /// # use serde_json::Value;
 /// # fn main() -> Result<(), Box<dyn std::error::Error>> {
 /// # let alloc = Global;
@@ -226,8 +227,8 @@ where
 /// It costs two look-ups among the members, and at most one call of `g`.
 ///
 /// ```
-/// # use slotmap_proved::{Global, JsonError, Key};
-/// # use slotmap_proved::json::slot_from_value;
+/// # use slotmap_proved::{Global, Key};
+/// # use slotmap_proved::json::{JsonError, slot_from_value};
 /// # use serde_json::Value;
 /// # fn main() -> Result<(), Box<dyn std::error::Error>> {
 /// # let alloc = Global;

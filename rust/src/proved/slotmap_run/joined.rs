@@ -119,7 +119,8 @@ where
 /// Each command costs one call of one map.
 ///
 /// ```
-/// # use slotmap_proved::{DefaultKey, Global, Key, OutOfMemory};
+/// # use slotmap_proved::{DefaultKey, Global, Key};
+/// # use slotmap_proved::errors::OutOfMemory;
 /// # use slotmap_proved::fallible::{SecondaryMap, SlotMap};
 /// # use slotmap_proved::runs::{JoinedCommand, JoinedReply, run_joined};
 /// # fn main() -> Result<(), Box<dyn std::error::Error>> {
@@ -238,7 +239,8 @@ where
 /// The closure, the numbers, the allocations, the failures and the cost are those of `run_joined`.
 ///
 /// ```
-/// # use slotmap_proved::{DefaultKey, Global, Key, OutOfMemory};
+/// # use slotmap_proved::{DefaultKey, Global, Key};
+/// # use slotmap_proved::errors::OutOfMemory;
 /// # use slotmap_proved::fallible::{SecondaryMap, SlotMap};
 /// # use slotmap_proved::runs::{JoinedCommand, JoinedDetachCommand, JoinedReply, run_joined_detaching};
 /// # fn main() -> Result<(), Box<dyn std::error::Error>> {

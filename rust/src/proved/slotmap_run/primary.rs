@@ -99,7 +99,8 @@ where
 /// return.
 ///
 /// ```
-/// # use slotmap_proved::{DefaultKey, Global, Key, OutOfMemory};
+/// # use slotmap_proved::{DefaultKey, Global, Key};
+/// # use slotmap_proved::errors::OutOfMemory;
 /// # use slotmap_proved::fallible::SlotMap;
 /// # use slotmap_proved::runs::{Command, Reply, run};
 /// # fn main() -> Result<(), Box<dyn std::error::Error>> {
@@ -199,7 +200,8 @@ where
 /// return.
 ///
 /// ```
-/// # use slotmap_proved::{DefaultKey, Global, Key, KeyData, OutOfMemory};
+/// # use slotmap_proved::{DefaultKey, Global, Key, KeyData};
+/// # use slotmap_proved::errors::OutOfMemory;
 /// # use slotmap_proved::fallible::SlotMap;
 /// # use slotmap_proved::runs::{Command, Reply, run_new};
 /// # fn main() -> Result<(), Box<dyn std::error::Error>> {
@@ -308,7 +310,8 @@ where
 /// [`run`].
 ///
 /// ```
-/// # use slotmap_proved::{DefaultKey, Global, Key, OutOfMemory};
+/// # use slotmap_proved::{DefaultKey, Global, Key};
+/// # use slotmap_proved::errors::OutOfMemory;
 /// # use slotmap_proved::fallible::SlotMap;
 /// # use slotmap_proved::runs::{DetachCommand, Reply, run_detaching};
 /// # fn main() -> Result<(), Box<dyn std::error::Error>> {
@@ -398,7 +401,8 @@ where
 /// The closures, the allocations, the failures and the cost are those of `run_new`.
 ///
 /// ```
-/// # use slotmap_proved::{DefaultKey, Global, Key, KeyData, OutOfMemory};
+/// # use slotmap_proved::{DefaultKey, Global, Key, KeyData};
+/// # use slotmap_proved::errors::OutOfMemory;
 /// # use slotmap_proved::fallible::SlotMap;
 /// # use slotmap_proved::runs::{Command, DetachCommand, Reply, run_detaching_new};
 /// # fn main() -> Result<(), Box<dyn std::error::Error>> {

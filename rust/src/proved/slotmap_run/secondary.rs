@@ -53,7 +53,8 @@ where
 /// Each command costs one call of the map.
 ///
 /// ```
-/// # use slotmap_proved::{DefaultKey, Global, Key, KeyData, OutOfMemory};
+/// # use slotmap_proved::{DefaultKey, Global, Key, KeyData};
+/// # use slotmap_proved::errors::OutOfMemory;
 /// # use slotmap_proved::fallible::SecondaryMap;
 /// # use slotmap_proved::runs::{run_secondary, SecondaryCommand, SecondaryReply};
 /// # fn main() -> Result<(), Box<dyn std::error::Error>> {

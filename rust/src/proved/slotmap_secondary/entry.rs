@@ -95,7 +95,8 @@ impl<K: Key, V> SecondaryMap<K, V> {
     /// Apart from that it does the same as `entry`, at the same cost. Rust lacks this call.
     ///
     /// ```
-    /// # use slotmap_proved::{DefaultKey, Global, Key, NoEntry};
+    /// # use slotmap_proved::{DefaultKey, Global, Key};
+    /// # use slotmap_proved::errors::NoEntry;
     /// # use slotmap_proved::fallible::{SecondaryMap, SlotMap};
     /// # fn main() -> Result<(), Box<dyn std::error::Error>> {
     /// # let alloc = Global;

@@ -90,8 +90,9 @@ impl<K: Key, V> SecondaryMap<K, V> {
     /// a list.
     ///
     /// ```
-    /// # use slotmap_proved::{DefaultKey, Global, Key, list, SlotRecord};
+    /// # use slotmap_proved::{DefaultKey, Global, Key, list};
     /// # use slotmap_proved::fallible::{SecondaryMap, SlotMap};
+    /// # use slotmap_proved::serial::SlotRecord;
     /// # fn main() -> Result<(), Box<dyn std::error::Error>> {
     /// # let alloc = Global;
     /// # let mut primary: SlotMap<DefaultKey, u64> = SlotMap::new(alloc)?;

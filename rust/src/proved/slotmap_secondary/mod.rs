@@ -340,7 +340,8 @@ impl<K: Key, V> SecondaryMap<K, V> {
     /// the same.
     ///
     /// ```
-    /// # use slotmap_proved::{DefaultKey, Global, Key, ReserveError};
+    /// # use slotmap_proved::{DefaultKey, Global, Key};
+    /// # use slotmap_proved::errors::ReserveError;
     /// # use slotmap_proved::fallible::{SecondaryMap, SlotMap};
     /// # fn main() -> Result<(), Box<dyn std::error::Error>> {
     /// # let alloc = Global;

@@ -91,7 +91,8 @@ impl<K: Key, V, S: BuildHasher> SparseSecondaryMap<K, V, S> {
     /// `entry`, at the same cost. Rust lacks this call.
     ///
     /// ```
-    /// # use slotmap_proved::{DefaultKey, Global, Key, NoEntry};
+    /// # use slotmap_proved::{DefaultKey, Global, Key};
+    /// # use slotmap_proved::errors::NoEntry;
     /// # use slotmap_proved::fallible::{SlotMap, SparseSecondaryMap};
     /// # fn main() -> Result<(), Box<dyn std::error::Error>> {
     /// # let alloc = Global;

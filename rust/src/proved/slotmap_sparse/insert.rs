@@ -123,8 +123,8 @@ impl<K: Key, V, S: BuildHasher> SparseSecondaryMap<K, V, S> {
     /// Only `Placed` changes what the map holds. It costs what `insert` does. Rust lacks this call.
     ///
     /// ```
-    /// # use slotmap_proved::{DefaultKey, Global, Key, OrPut};
-    /// # use slotmap_proved::fallible::{SlotMap, SparseSecondaryMap};
+    /// # use slotmap_proved::{DefaultKey, Global, Key};
+    /// # use slotmap_proved::fallible::{OrPut, SlotMap, SparseSecondaryMap};
     /// # fn main() -> Result<(), Box<dyn std::error::Error>> {
     /// # let alloc = Global;
     /// # let mut primary: SlotMap<DefaultKey, u64> = SlotMap::new(alloc)?;

@@ -178,8 +178,9 @@ impl<K: Key, V> SparseSecondaryMap<K, V> {
     /// that one if a stranger wrote the list: the default hasher's seed is fixed and public.
     ///
     /// ```
-    /// # use slotmap_proved::{DefaultKey, Global, Key, list, SlotRecord};
+    /// # use slotmap_proved::{DefaultKey, Global, Key, list};
     /// # use slotmap_proved::fallible::{SlotMap, SparseSecondaryMap};
+    /// # use slotmap_proved::serial::SlotRecord;
     /// # fn main() -> Result<(), Box<dyn std::error::Error>> {
     /// # let alloc = Global;
     /// # let mut primary: SlotMap<DefaultKey, u64> = SlotMap::new(alloc)?;

@@ -429,7 +429,8 @@ impl<K: Key, V, S: BuildHasher> SparseSecondaryMap<K, V, S> {
     /// costs the same.
     ///
     /// ```
-    /// # use slotmap_proved::{DefaultKey, Global, Key, ReserveError};
+    /// # use slotmap_proved::{DefaultKey, Global, Key};
+    /// # use slotmap_proved::errors::ReserveError;
     /// # use slotmap_proved::fallible::{SlotMap, SparseSecondaryMap};
     /// # fn main() -> Result<(), Box<dyn std::error::Error>> {
     /// # let alloc = Global;
