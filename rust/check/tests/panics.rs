@@ -4,9 +4,39 @@
 #[path = "panics/fuse.rs"]
 mod fuse;
 
-use fuse::{at_each_tick, tick, ticking, Hooked, MakeTicking};
+use fuse::{at_each_tick, tick, ticking, Hooked};
 use slotmap_proved::{DefaultKey, DenseSlotMap, HopSlotMap, Key, KeyData, SecondaryMap, SlotMap, SparseSecondaryMap};
 use std::collections::BTreeMap;
+use std::hash::{BuildHasher, Hasher};
+
+/// A hasher that ticks.
+#[derive(Clone, Default)]
+pub struct Ticking(u64);
+
+impl Hasher for Ticking {
+    fn finish(&self) -> u64 {
+        self.0
+    }
+
+    fn write(&mut self, bytes: &[u8]) {
+        tick();
+        for byte in bytes {
+            self.0 = self.0.wrapping_mul(31).wrapping_add(u64::from(*byte));
+        }
+    }
+}
+
+/// Makes hashers that tick.
+#[derive(Clone, Default)]
+pub struct MakeTicking;
+
+impl BuildHasher for MakeTicking {
+    type Hasher = Ticking;
+
+    fn build_hasher(&self) -> Ticking {
+        Ticking(0)
+    }
+}
 
 fn parts(key: DefaultKey) -> (u32, u32) {
     let number = key.data().as_ffi();

@@ -355,8 +355,6 @@ fn world() {
             drop(world.detach::<First>(key));
             drop(world.detach::<Second>(key));
         }),
-        ("spawn_with", |world| assert!(world.spawn_with::<First>(Hooked(7), Hooked(8)).is_ok())),
-        ("spawn_with_both", |world| assert!(world.spawn_with_both::<First, Second>(Hooked(7), Hooked(8), Hooked(9)).is_ok())),
         ("replace_both", |world| {
             let key = world.with_both::<First, Second>().next().unwrap().0;
             drop(world.replace_both::<First, Second>(key, Hooked(7), Hooked(8)));

@@ -1,7 +1,6 @@
-//! Values, hashers and closures that panic at a chosen moment.
+//! Values and iterators that panic at a chosen moment.
 
 use std::cell::Cell;
-use std::hash::{BuildHasher, Hasher};
 use std::panic::{catch_unwind, set_hook, AssertUnwindSafe};
 
 thread_local! {
@@ -50,35 +49,6 @@ impl PartialEq for Hooked {
 /// Yields these, with a tick before each.
 pub fn ticking<T>(items: impl IntoIterator<Item = T>) -> impl Iterator<Item = T> {
     items.into_iter().inspect(|_| tick())
-}
-
-/// A hasher that ticks.
-#[derive(Clone, Default)]
-pub struct Ticking(u64);
-
-impl Hasher for Ticking {
-    fn finish(&self) -> u64 {
-        self.0
-    }
-
-    fn write(&mut self, bytes: &[u8]) {
-        tick();
-        for byte in bytes {
-            self.0 = self.0.wrapping_mul(31).wrapping_add(u64::from(*byte));
-        }
-    }
-}
-
-/// Makes hashers that tick.
-#[derive(Clone, Default)]
-pub struct MakeTicking;
-
-impl BuildHasher for MakeTicking {
-    type Hasher = Ticking;
-
-    fn build_hasher(&self) -> Ticking {
-        Ticking(0)
-    }
 }
 
 /// Makes the call once for each of its ticks, with a panic at that tick, each time from a new start, and checks what is left. The last
