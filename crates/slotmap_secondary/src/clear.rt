@@ -4,7 +4,7 @@ ghost use Rattle.std.specs.FinMap as map;
 ghost use Rattle.std.specs.Prelude.{◌≡◌, ◌≤◌, ℕ, true};
 ghost use Rattle.slotmap_secondary.specs.Content.{IsSideContent};
 
-use crate::{SecondaryMap, slot};
+use crate::SecondaryMap;
 use slotmap_core::keys::Key;
 
 impl<K: Key, V: Drop> SecondaryMap<K, V> {
@@ -21,8 +21,7 @@ impl<K: Key, V: Drop> SecondaryMap<K, V> {
         ensures empty { self.new ≡ record self.old { pairs = map.empty } }
         ensures valid { IsSideContent self.new }
     {
-        slot::vacate_all(&mut self.slots);
-        self.len = 0;
+        self.clear_from(0);
     }
 
     // Removes the keys from this index on.
