@@ -1,4 +1,5 @@
 pub mod Key
+pub mod NonZero
 pub mod Content
 pub mod Listing
 pub mod Draining
