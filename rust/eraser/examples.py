@@ -1,7 +1,7 @@
 """The examples of doc comments: those of what the crate exports become examples that rustdoc compiles and runs."""
 import re
 
-from .exports import exported, traits_of
+from .exports import exported, names_below, traits_of
 from .tokens import Bad
 
 MAPS = {"slotmap_basic": "SlotMap", "slotmap_dense": "DenseSlotMap", "slotmap_hop": "HopSlotMap", "slotmap_secondary": "SecondaryMap", "slotmap_sparse": "SparseSecondaryMap"}
@@ -84,6 +84,16 @@ def wrapped(crate, lines):
     return hide(before) + code.split("\n") + hide(["Ok(())", "}"])
 
 
+def linked(line, crate, text):
+    """The links of a comment: what was the library's root is a module now, and a name that the file doesn't import gets its path."""
+    home = f"crate::proved::{crate}::"
+    line = re.sub(r"(\]\(|\]: )crate::(?!words#)", rf"\1{home}", line)
+    for name in re.findall(r"\[`(\w+)`\](?![(:])", line):
+        is_known = re.search(rf"(?m)^(?!\s*//).*\b{name}\b", text) or re.search(rf"(?m)//[/!] \[`{name}`\]: ", text)
+        if name in names_below(crate) and not is_known: line = line.replace(f"[`{name}`]", f"[`{name}`]({home}{name})")
+    return line
+
+
 def examples(text, crate):
     """The code of comments: a block of an exported item runs, one of what the crate keeps to itself is only shown."""
     out, block, fence = [], [], None
@@ -95,7 +105,7 @@ def examples(text, crate):
         start, said = comment.groups()
         if not said.startswith("```"):
             if fence == "": block.append(said)
-            else: out.append(line.replace("rt.alloc()", "Global") if fence else line)
+            else: out.append(line.replace("rt.alloc()", "Global") if fence else linked(line, crate, text))
             continue
         if fence is None:
             fence, block = said[3:], []

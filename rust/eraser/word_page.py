@@ -10,10 +10,13 @@ sys.dont_write_bytecode = True
 sys.path.insert(0, os.path.join(TOP, "docs"))
 
 # docs/definitions.py and docs/words.py
+import words
 from definitions import cited_by, declared_at, files, reached_from
 from words import TOLD_WITH, clauses_of, fields_below, note_words, public_items
 
 from .tokens import Bad
+
+words.imports_of = functools.cache(words.imports_of)
 
 # The libraries whose clauses the crate shows, with the heading of each one's words.
 LIBRARIES = {"slotmap_core": "Keys, contents and runs", "slotmap_slots": "Slots", "slotmap_basic": "SlotMap", "slotmap_dense": "DenseSlotMap",
@@ -68,12 +71,11 @@ def words_in(path, text):
     return sorted(found, key=lambda it: (it[0].lower(), it))
 
 
+@functools.cache
 def clauses_shown():
     """The public clauses of the crate, each with the file that it is of."""
-    for crate in SHOWN:
-        for item in public_items(crate):
-            for clause in clauses_of(item, item.kind == "fn"):
-                yield item.path, clause
+    items = [item for crate in SHOWN for item in public_items(crate)]
+    return [(item.path, clause) for item in items for clause in clauses_of(item, item.kind == "fn")]
 
 
 @functools.cache
@@ -193,6 +195,7 @@ def page():
     return re.sub(r"\n{3,}", "\n\n", "\n".join(out)).strip() + "\n"
 
 
+@functools.cache
 def imports_of_rattle(path):
     """What a file imports of Rattle's own definitions, and its names for whole modules of them. Types of Rust are left out."""
     with open(os.path.join(TOP, path), encoding="utf-8") as file:

@@ -53,10 +53,12 @@ mod clauses;
 
 #[cfg(not(feature = "internals"))]
 #[allow(warnings)]
+#[deny(rustdoc::broken_intra_doc_links, rustdoc::private_intra_doc_links)]
 mod proved;
 #[cfg(feature = "internals")]
 #[doc(hidden)]
 #[allow(warnings)]
+#[deny(rustdoc::broken_intra_doc_links, rustdoc::private_intra_doc_links)]
 pub mod proved;
 #[cfg(not(feature = "internals"))]
 mod rt;

@@ -82,7 +82,7 @@ pub trait Kind<K: Key, T: Tables<K>>: crate::sealed::Kind<K, T> {
 
 /// Two kinds of components with a table each: no kind is apart from itself.
 ///
-/// It says which calls on two kinds there are, as [`World::spawn_with_both`](crate::World::spawn_with_both),
+/// It says which calls on two kinds there are, as [`World::spawn_with_both`](crate::proved::slotmap_entities::World::spawn_with_both),
 /// in either order of the kinds.
 ///
 /// ```

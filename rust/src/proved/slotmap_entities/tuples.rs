@@ -11,7 +11,7 @@ use crate::rt::std::alloc::Global;
 /// The tables of a world: pairs of a [`Table`] and further tables, down to `()`.
 ///
 /// Pairs nest, for any number of kinds. A struct of tables can have an impl of its
-/// own, and each of its kinds one of [`Kind`]. With the attribute below that needs no proof file:
+/// own, and each of its kinds one of [`Kind`](crate::proved::slotmap_entities::Kind). With the attribute below that needs no proof file:
 ///
 /// ```text
 /// #[tactic(auto, using(slotmap::proofs::Callers::secondary))]

@@ -18,8 +18,8 @@ use crate::rt::std::iter::FusedIterator;
 /// A contract sees it as the list of the keys that it will still yield. After its end it yields
 /// nothing. A clone yields the same keys; cloning can't fail.
 ///
-/// [`Graph::edges_from`]: crate::Graph::edges_from
-/// [`Graph::edges_to`]: crate::Graph::edges_to
+/// [`Graph::edges_from`]: crate::proved::slotmap_graph::Graph::edges_from
+/// [`Graph::edges_to`]: crate::proved::slotmap_graph::Graph::edges_to
 pub struct EdgesAt<'a, E> {
     pub(in crate::proved::slotmap_graph) edges: &'a Edges<E>,
     pub(in crate::proved::slotmap_graph) members: Members<'a>,

@@ -20,8 +20,8 @@ pub(in crate::proved::slotmap_graph) enum Direction {
 pub(in crate::proved::slotmap_graph) type Edges<E> = BoundedMap<EdgeKey, Edge<E>>;
 
 /// An edge from one node to another, or to itself, with its value. It stands only in the type of
-/// [`Graph::edges`](crate::Graph::edges). Read an edge by [`Graph::edge`](crate::Graph::edge) and
-/// [`Graph::edge_ends`](crate::Graph::edge_ends).
+/// [`Graph::edges`](crate::proved::slotmap_graph::Graph::edges). Read an edge by [`Graph::edge`](crate::proved::slotmap_graph::Graph::edge) and
+/// [`Graph::edge_ends`](crate::proved::slotmap_graph::Graph::edge_ends).
 pub struct Edge<E> {
     from: DefaultKey,
     to: DefaultKey,

@@ -20,7 +20,7 @@ fn link_of(links: &[Link], member: u32) -> Link {
 /// A contract sees it as the list of the members that it will still yield. After its end it yields
 /// nothing. A clone yields the same members; cloning can't fail.
 ///
-/// [`Links::iter`]: crate::Links::iter
+/// [`Links::iter`]: crate::proved::slotmap_links::Links::iter
 pub struct Members<'a> {
     pub(in crate::proved::slotmap_links) links: &'a [Link],
     pub(in crate::proved::slotmap_links) first: u32,
@@ -87,7 +87,7 @@ impl<'a> Clone for Members<'a> {
 /// A contract sees it as the list of the members that it will still yield. After its end it yields
 /// nothing. It goes forward only, and doesn't know how many are left.
 ///
-/// [`Links::iter_from`]: crate::Links::iter_from
+/// [`Links::iter_from`]: crate::proved::slotmap_links::Links::iter_from
 pub struct MembersFrom<'a> {
     pub(in crate::proved::slotmap_links) links: &'a [Link],
     pub(in crate::proved::slotmap_links) at: u32,

@@ -29,7 +29,7 @@ fn step_back<K: Key, N, E>(
 /// Returns the edges of a shortest path to a node, in their order from the start on. There are none if the
 /// node is the start. The call returns `None` if the node wasn't found.
 ///
-/// The table is one that [`shortest_paths`](crate::shortest_paths) returned for this graph. In a table
+/// The table is one that [`shortest_paths`](crate::proved::slotmap_paths::shortest_paths) returned for this graph. In a table
 /// that was made up, or is of an older graph, the last edges may not lead back to a start. Then
 /// the call returns `None`.
 ///

@@ -17,7 +17,7 @@ use crate::rt::std::marker::PhantomData;
 /// A contract sees it as the list of the keys that it will still yield. After its end it yields
 /// nothing. A clone yields the same keys; cloning can't fail.
 ///
-/// [`Scene::children`]: crate::Scene::children
+/// [`Scene::children`]: crate::proved::slotmap_scene::Scene::children
 pub struct ChildKeys<'a, K, T> {
     pub(in crate::proved::slotmap_scene) nodes: &'a BoundedMap<DefaultKey, T>,
     pub(in crate::proved::slotmap_scene) members: Members<'a>,
