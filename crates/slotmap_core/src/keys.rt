@@ -8,6 +8,7 @@ ghost use Rattle.std.specs.Prelude.{◌≡◌, ◌↔◌, ◌/◌, ◌%◌, ◌^
 ghost use Rattle.slotmap_core.specs.Words.{Key as KeyOf, IsKey, null_key, ffi, key_from, is_older};
 ghost use Rattle.slotmap_core.specs.Words.{made_odd, non_zero_u32_get};
 
+use crate::sure::sure;
 use std::cmp::Ordering;
 use std::fmt;
 use std::hash::{Hash, Hasher};
@@ -170,10 +171,7 @@ impl KeyData {
 fn odd_version(version: u32) -> NonZeroU32
     ensures { non_zero_u32_get result ≡ made_odd version }
 {
-    match NonZeroU32::new(version | 1) {
-        Some(version) => version,
-        None => NonZeroU32::MIN,
-    }
+    sure(NonZeroU32::new(version | 1))
 }
 
 /// Returns whether version `a` is older than version `b`, where versions of 32 bits wrap around.
@@ -254,7 +252,7 @@ impl Default for KeyData {
     fn default() -> KeyData {
         KeyData {
             idx: u32::MAX,
-            version: NonZeroU32::MIN,
+            version: odd_version(1),
         }
     }
 }
