@@ -9,6 +9,7 @@ use crate::HopSlotMap;
 use crate::one_block::{all_go_on, make_one_block};
 use slotmap_core::errors::OutOfMemory;
 use slotmap_core::keys::Key;
+use slotmap_core::sure::drop_may_unwind;
 
 impl<K: Key, V: Drop> HopSlotMap<K, V> {
     /// Removes every live key and drops its value.
@@ -28,7 +29,8 @@ impl<K: Key, V: Drop> HopSlotMap<K, V> {
         ensures blocks { self.new.blocks ≡ blocks_without_all self.old (map.keys self.old.content.live) }
         ensures valid { StaysHop self.old self.new }
     {
-        if self.clear_at_once() {
+        // Where a drop may unwind, each value is out of the map before it is dropped.
+        if !drop_may_unwind::<V>() && self.clear_at_once() {
             return;
         }
         self.clear_each();
