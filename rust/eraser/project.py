@@ -24,8 +24,6 @@ LIBRARY_TREE, PROGRAM_TREE = "rust/src/proved", "rust/check/src/programs"
 PATCHES = {
     # In Rust a drop lends its fields, so the index is behind a reference.
     ("slotmap_secondary", "drain"): [("map.clear_from(index);", "map.clear_from(*index);")],
-    # A drop that panics would leave the counts as they were: the slots are overwritten one by one, which drops values.
-    ("slotmap_hop", "clear"): [("if self.clear_at_once() {", "if !std::mem::needs_drop::<V>() && self.clear_at_once() {")],
     # An exported macro is at the root of its crate in Rust.
     ("slotmap_rows", "lib"): [("mod call;", "pub use crate::{looked, written};\nmod call;")],
     # The features that these names need.
