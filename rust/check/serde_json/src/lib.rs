@@ -1,6 +1,10 @@
-//! What the programs and tests here call of the crate `serde_json`, so that they need no registry.
+//! Test code: what the programs and tests here call of the crate `serde_json`, so that they need no registry.
 //!
 //! The package `beside` runs them over the crate itself.
+
+mod read;
+
+pub use read::from_str;
 
 use std::fmt;
 
@@ -22,7 +26,7 @@ pub enum Number {
     Other(f64),
 }
 
-/// Why a text is no JSON.
+/// That a text is no JSON.
 #[derive(Debug)]
 pub struct Error;
 
@@ -97,6 +101,29 @@ macro_rules! json {
     ($value:expr) => { $crate::Value::from($value) };
 }
 
+/// Writes a text between quotation marks.
+fn write_text(text: &str, f: &mut fmt::Formatter<'_>) -> fmt::Result {
+    use fmt::Write;
+    f.write_char('"')?;
+    for character in text.chars() {
+        match character {
+            '"' | '\\' => write!(f, "\\{character}")?,
+            '\0'..='\x1f' => write!(f, "\\u{:04x}", u32::from(character))?,
+            _ => f.write_char(character)?,
+        }
+    }
+    f.write_char('"')
+}
+
+/// Writes what stands between two brackets, with commas.
+fn write_all<T>(items: &[T], f: &mut fmt::Formatter<'_>, write: fn(&T, &mut fmt::Formatter<'_>) -> fmt::Result) -> fmt::Result {
+    for (at, item) in items.iter().enumerate() {
+        f.write_str(if at == 0 { "" } else { "," })?;
+        write(item, f)?;
+    }
+    Ok(())
+}
+
 impl fmt::Display for Value {
     fn fmt(&self, f: &mut fmt::Formatter<'_>) -> fmt::Result {
         match self {
@@ -104,26 +131,20 @@ impl fmt::Display for Value {
             Value::Bool(truth) => write!(f, "{truth}"),
             Value::Number(Number::Whole(number)) => write!(f, "{number}"),
             Value::Number(Number::Other(number)) => write!(f, "{number:?}"),
-            Value::String(text) => write!(f, "{text:?}"),
+            Value::String(text) => write_text(text, f),
             Value::Array(values) => {
                 f.write_str("[")?;
-                for (at, value) in values.iter().enumerate() {
-                    write!(f, "{}{value}", if at == 0 { "" } else { "," })?;
-                }
+                write_all(values, f, |value, f| write!(f, "{value}"))?;
                 f.write_str("]")
             }
             Value::Object(members) => {
                 f.write_str("{")?;
-                for (at, (name, value)) in members.iter().enumerate() {
-                    write!(f, "{}{name:?}:{value}", if at == 0 { "" } else { "," })?;
-                }
+                write_all(members, f, |(name, value), f| {
+                    write_text(name, f)?;
+                    write!(f, ":{value}")
+                })?;
                 f.write_str("}")
             }
         }
     }
-}
-
-/// Reads a value from a text.
-pub fn from_str(_text: &str) -> Result<Value, Error> {
-    todo!("the reader")
 }

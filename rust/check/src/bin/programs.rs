@@ -1,1 +1,41 @@
-fn main() {}
+//! `programs NAME ARGS ..`: the project's programs, erased.
+//!
+//! Their sources are generated, in `src/programs`. What they print is compared with what the proved programs print, by
+//! `tests/programs.rs`.
+
+#[macro_use]
+#[path = "../rt.rs"]
+mod rt;
+
+#[allow(warnings)]
+#[path = "../programs"]
+mod programs {
+    pub mod joined_rows;
+    pub mod primary_rows;
+    pub mod secondary_rows;
+    pub mod slotmap_rows;
+    pub mod slotmap_script;
+    pub mod slotrun;
+    pub mod structures_at_size;
+}
+
+use std::process::ExitCode;
+
+/// The status of a name that names no program. No program has it.
+const NO_PROGRAM: u8 = 64;
+
+fn main() -> ExitCode {
+    let name = std::env::args_os().nth(1).unwrap_or_default();
+    let main = match name.to_str() {
+        Some("joined_rows") => programs::joined_rows::main,
+        Some("primary_rows") => programs::primary_rows::main,
+        Some("secondary_rows") => programs::secondary_rows::main,
+        Some("slotrun") => programs::slotrun::main,
+        Some("structures_at_size") => programs::structures_at_size::main,
+        _ => {
+            eprintln!("programs NAME ARGS ..: no program has the name {name:?}");
+            return ExitCode::from(NO_PROGRAM);
+        }
+    };
+    main(rt::HostRuntime)
+}
