@@ -186,10 +186,11 @@ macro_rules! primary {
                 ("clone_from", |state| {
                     state.anew = true;
                     let mut other = Map::with_key();
-                    other.extend((0..20).map(Hooked));
+                    for number in 0..20 {
+                        other.insert(Hooked(number));
+                    }
                     state.map.clone_from(&other);
                 }),
-                ("extend", |state| state.map.extend(ticking((0..20).map(Hooked)))),
                 ("into_iter", |state| {
                     state.anew = true;
                     std::mem::take(&mut state.map).into_iter().take(3).for_each(drop);
