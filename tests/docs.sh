@@ -9,7 +9,7 @@
 # than its box. It takes some seconds. The status is 0 if there is no fault.
 cd "$(dirname "$0")/../docs"
 status=0
-for script in ../tests/links.py ../tests/one_meaning.py ../tests/private_lemmas.py ../tests/counted_reads.py ../tests/calls.py api.py site.py words.py counts.py theorem.py related.py verdicts.py calling.py performance.py pictures/crates.py pictures/hop_blocks.py pictures/slot.py pictures/speed.py; do
+for script in ../rust/eraser/test.py ../rust/erase.py ../tests/links.py ../tests/one_meaning.py ../tests/private_lemmas.py ../tests/counted_reads.py ../tests/calls.py api.py site.py words.py counts.py theorem.py related.py verdicts.py calling.py performance.py pictures/crates.py pictures/hop_blocks.py pictures/slot.py pictures/speed.py; do
     python3 "$script" --check || status=1
 done
 exit $status
