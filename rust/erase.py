@@ -28,16 +28,17 @@ Some forms compile in Rust with another meaning. What guards against each:
 - A drop or a closure that panics unwinds in Rust and ends the process in Rattle: the package's tests have each call
   panic at each place.
 """
+import multiprocessing
 import os
 import re
 import sys
 
-from eraser import closed, contracts, drops, errors, paths, requires, sealed
+from eraser import contracts, drops, errors, paths, requires, sealed
 from eraser.attributes import take_attributes
 from eraser.clauses import macro
 from eraser.documents import documented
 from eraser.examples import examples
-from eraser.project import IN_SHIM, LENT, LIBRARIES, LIBRARY_TREE, PATCHES, PROGRAM_TREE, PROGRAMS, TOP, files_of, refuse_unknown_crates
+from eraser.project import IN_SHIM, LENT, LIBRARIES, LIBRARY_TREE, PATCHES, PROGRAM_TREE, PROGRAMS, TOP, files_of, refuse_unknown_crates, tell_place
 from eraser.tokens import Bad, Edits
 from eraser.word_page import page
 
@@ -50,50 +51,44 @@ def main():
     if wanted not in ([], ["--check"], ["--requires"]):
         raise SystemExit(__doc__)
     refuse_unknown_crates()
-    crates = read_all()
     if wanted == ["--requires"]:
-        print_requires(crates)
+        print_requires()
     else:
-        write_or_compare(generated(crates), is_check=wanted == ["--check"])
+        write_or_compare(generated(), is_check=wanted == ["--check"])
 
 
-def read_all():
-    """The files of all crates, read."""
-    known_macros, crates = {}, {}
-    for crate in (*LIBRARIES, *PROGRAMS):
-        crates[crate] = files_of(crate)
-        own = {name for file in crates[crate] for name in re.findall(r"\bmacro_rules! (\w+)", file.text)}
-        known_macros[crate] = known_macros.get("programs", set()) | own if crate in PROGRAMS else own
-        if crate in PROGRAMS:
-            known_macros["programs"] = known_macros[crate]
-        for file in crates[crate]:
-            tell_place(file, lambda: file.read(macros_of(crate, known_macros[crate])))
-    return crates
-
-
-def macros_of(crate, own):
-    """The macros that a crate may call."""
-    return closed.MACROS | own | (closed.MACROS_OF_PROGRAMS if crate in PROGRAMS else set())
-
-
-def tell_place(file, action):
-    """Does something with a file; an error ends the program with the place."""
-    try:
-        return action()
-    except Bad as why:
-        raise SystemExit(f"{file.source}:{why.line or '?'}: {why}")
-
-
-def generated(crates):
-    """All files that are generated, with their texts."""
-    found = {}
-    for crate, files in crates.items():
-        types = requires.Types(files)
-        for file in files:
-            found[file.target] = tell_place(file, lambda: head_of(file) + erased(file, types))
+def generated():
+    """All files that are generated, with their texts. The crates are erased beside each other."""
+    found, parts = {}, [*PROGRAMS, *LIBRARIES]
+    with multiprocessing.Pool() as pool:
+        words = pool.apply_async(texts_of_words)
+        for texts, error in pool.imap(texts_or_error, parts):
+            if error:
+                raise SystemExit(error)
+            found.update(texts)
+        found.update(words.get())
     found[f"{LIBRARY_TREE}/mod.rs"] = modules_of_libraries()
-    found["rust/src/clauses.rs"], found["rust/src/words.md"] = macro(), page()
     return found
+
+
+def texts_or_error(crate):
+    """The generated files of a crate, and what went wrong, if anything did."""
+    try:
+        return texts_of(crate), None
+    except SystemExit as why:
+        return {}, str(why)
+
+
+def texts_of(crate):
+    """The generated files of a crate."""
+    files = files_of(crate)
+    types = requires.Types(files)
+    return {file.target: tell_place(file.source, lambda: head_of(file) + erased(file, types)) for file in files}
+
+
+def texts_of_words():
+    """The files that are written of clauses and of their words."""
+    return {"rust/src/clauses.rs": macro(), "rust/src/words.md": page()}
 
 
 def head_of(file):
@@ -122,7 +117,6 @@ def erased(file, types):
     if (file.crate, file.path) in IN_SHIM:
         return names_in_shim(file)
     t, items, edits = file.tokens, file.items, Edits(file.tokens)
-    closed.refuse_unknown(t, file.macros)
     contracts.take_contracts(t, items, edits)
     take_attributes(t, items, edits)
     drops.take_drops(t, items, edits)
@@ -153,12 +147,12 @@ def finished(file, text, impls):
     requires.HERE[0] = (file.crate, file.path)
     text = examples(documented(text, file.crate), file.crate)
     head = re.match(r"(?:\s*//!.*\n)*", text).end()
-    text = f"{text[:head]}\n{PRELUDE}\n{text[head:]}" if head else f"{PRELUDE}\n\n{text}"
-    text = "\n".join([text.rstrip("\n") + "\n", *impls])
+    parts = [text[:head].rstrip("\n"), PRELUDE, text[head:].strip("\n"), *(it.rstrip("\n") for it in impls)]
+    text = "\n\n".join(part for part in parts if part) + "\n"
     if (file.crate, file.path) in LENT:
         up = "../" * (2 + file.path.count("/"))
         text += f'\n/// By hand.\n#[path = "{up}lent/{LENT[file.crate, file.path]}.rs"]\npub(crate) mod lent;\n'
-    return patched(file, re.sub(r"\n{3,}", "\n\n", text))
+    return patched(file, text)
 
 
 def patched(file, text):
@@ -170,14 +164,15 @@ def patched(file, text):
     return text
 
 
-def print_requires(crates):
+def print_requires():
     """Prints what becomes of each premise."""
     for crate in LIBRARIES:
-        types = requires.Types(crates[crate])
-        for file in crates[crate]:
+        files = files_of(crate)
+        types = requires.Types(files)
+        for file in files:
             if (file.crate, file.path) in IN_SHIM:
                 continue
-            for _, premises in tell_place(file, lambda: requires.handled(file, types)):
+            for _, premises in tell_place(file.source, lambda: requires.handled(file, types)):
                 for premise in premises:
                     print(f"{premise.call}\n    {premise.term}\n    {premise.way}: {premise.said}")
 

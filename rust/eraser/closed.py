@@ -63,7 +63,8 @@ def refuse_word(t, at, macros):
 
 def is_macro(t, at):
     """Whether a macro is called, or declared, by this word."""
-    return t[at + 1:at + 2] == [("mark", "!")] and at + 2 < len(t) and (t[at + 2][1] in "([{" or t[at][1] == "macro_rules")
+    opened = after_space(t, at + 2)
+    return t[at + 1:at + 2] == [("mark", "!")] and opened < len(t) and (t[opened][1] in "([{" or t[at][1] == "macro_rules")
 
 
 def is_of_model(t, at):

@@ -1,9 +1,11 @@
 """What is erased: the libraries of the package, the programs of its tests, and what the eraser does to single files."""
 import hashlib
 import os
+import re
 
+from .closed import MACROS, MACROS_OF_PROGRAMS, refuse_unknown
 from .items import Reader
-from .tokens import tokens
+from .tokens import Bad, tokens
 
 TOP = os.path.dirname(os.path.dirname(os.path.dirname(os.path.abspath(__file__))))
 CRATES = os.path.join(TOP, "crates")
@@ -43,14 +45,14 @@ LENT = {
 
 
 class File:
-    """A proved source: its tokens and its items are read when they are asked for first."""
+    """A proved source, with its tokens and its items."""
 
-    def __init__(self, crate, path):
+    def __init__(self, crate, path, read, macros):
         self.crate, self.path = crate, path
-        with open(os.path.join(TOP, self.source), "rb") as file:
-            read = file.read()
         self.sum = hashlib.sha256(read).hexdigest()
-        self.text = read.decode()
+        self.tokens = tokens(read.decode())
+        refuse_unknown(self.tokens, macros)
+        self.items = Reader(self.tokens, macros).read()
 
     @property
     def source(self):
@@ -63,25 +65,44 @@ class File:
         tree = LIBRARY_TREE if self.crate in LIBRARIES else PROGRAM_TREE
         return f"{tree}/{self.crate}/{'mod' if self.path in ('lib', 'main') else self.path}.rs"
 
-    def read(self, macros):
-        """Reads tokens and items; `macros` are those that the file may call."""
-        self.macros = macros
-        self.tokens = tokens(self.text)
-        self.items = Reader(self.tokens, macros).read()
+
+def tell_place(name, action):
+    """Does something with a file; an error ends the program with the place."""
+    try:
+        return action()
+    except Bad as why:
+        raise SystemExit(f"{name}:{why.line or '?'}: {why}") from why
 
 
-def files_of(crate):
-    """The sources of a crate. A file of another kind is an error."""
-    base, found = os.path.join(CRATES, crate, "src"), []
+def sources_of(crate):
+    """The sources of a crate: their paths and texts. A file of another kind is an error."""
+    base, found = os.path.join(CRATES, crate, "src"), {}
     for folder, _, names in sorted(os.walk(base)):
         for name in sorted(names):
             path = os.path.relpath(os.path.join(folder, name), base)
             if not path.endswith(".rt"):
                 raise SystemExit(f"crates/{crate}/src/{path}: a file that the eraser doesn't know")
-            found.append(File(crate, path[:-3]))
+            with open(os.path.join(base, path), "rb") as file:
+                found[path[:-3]] = file.read()
     if not found:
         raise SystemExit(f"crates/{crate}: no sources")
     return found
+
+
+def macros_of(crate):
+    """The macros that the files of a crate may call: known ones, those of the crate, and those that it imports."""
+    own = set()
+    for name in PROGRAMS if crate in PROGRAMS else (crate,):
+        for read in sources_of(name).values():
+            own |= set(re.findall(r"\bmacro_rules! (\w+)", read.decode()))
+    return MACROS | own | (MACROS_OF_PROGRAMS if crate in PROGRAMS else set())
+
+
+def files_of(crate):
+    """The files of a crate."""
+    macros = macros_of(crate)
+    made = lambda path, read: tell_place(f"crates/{crate}/src/{path}.rt", lambda: File(crate, path, read, macros))
+    return [made(path, read) for path, read in sources_of(crate).items()]
 
 
 def refuse_unknown_crates():

@@ -38,9 +38,13 @@ class Bad(Exception):
 class Token(tuple):
     """A pair of kind and text that knows its line. What a clause or a ghost item is called is its name."""
 
+    name = ""
+
     def __new__(cls, kind, text, line, name=""):
         made = tuple.__new__(cls, (kind, text))
-        made.line, made.name = line, name
+        made.line = line
+        if name:
+            made.name = name
         return made
 
 
