@@ -144,8 +144,7 @@ def names_in_shim(file):
 
 def finished(file, text, impls):
     """The text with its docs, its prelude, its impls and its patches."""
-    requires.HERE[0] = (file.crate, file.path)
-    text = examples(documented(text, file.crate), file.crate)
+    text = examples(documented(text, file.crate, file.path), file.crate)
     head = re.match(r"(?:\s*//!.*\n)*", text).end()
     parts = [text[:head].rstrip("\n"), PRELUDE, text[head:].strip("\n"), *(it.rstrip("\n") for it in impls)]
     text = "\n\n".join(part for part in parts if part) + "\n"

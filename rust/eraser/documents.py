@@ -2,7 +2,6 @@
 import re
 
 from .clauses import section_of
-from .requires import HERE, test_of
 from .tokens import Bad
 
 FUNCTION = re.compile(r"(\s*)(pub(?:\([^)]*\))? )?(?:const )?fn (\w+)")
@@ -16,28 +15,22 @@ def header_of(lines):
     return None
 
 
-def document(out, number, clauses):
+def document(out, number, clauses, crate, path):
     """Puts the section of a function below its comment, if it has one."""
     pad, _, name = FUNCTION.match(out[number]).groups()
     while number > 0 and re.match(r"\s*#\[", out[number - 1]): number -= 1
     if number == 0 or not out[number - 1].lstrip().startswith("///"): return
-    lines = section_of(*HERE[0], name, clauses)
+    lines = section_of(crate, path, name, clauses)
     if lines is None: raise Bad(f"the clauses of {name} aren't in the source")
     out[number:number] = [f"{pad}/// {it}".rstrip() for it in ["", *lines]]
 
 
-def documented(text, crate):
+def documented(text, crate, path):
     """Moves the clauses of each function into its rustdoc, or drops them where there is none."""
-    out, test = [], None
+    out = []
     for line in text.split("\n"):
-        if test and line.strip() == "{":
-            out += [line, line[:-1] + "    " + test]; test = None
-            continue
         clauses = re.findall("\x01(.*?)\x02", line.replace("\x03", "\n"), re.S)
         out.append(re.sub("\x01.*?\x02", "", line).rstrip() if clauses else line)
         number = header_of(out) if clauses else None
-        if number is None: continue
-        test = test_of(clauses, crate, FUNCTION.match(out[number])[2] == "pub ")
-        if test and out[-1].endswith("{"): raise Bad("a test has no place")
-        document(out, number, clauses)
+        if number is not None: document(out, number, clauses, crate, path)
     return "\n".join(out)

@@ -179,12 +179,3 @@ def guard(file, types, edits):
             edits.put_after(item.header_end, "".join(margin + test for test in tests))
         if any(it.said == KEPT_METHOD for it in premises):
             edits.put(item.start, "pub(crate)")
-
-
-# For documents.py: the file that is being erased.
-HERE = [None]
-
-
-def test_of(_clauses, _crate, _public):
-    """Tests are written by `guard`."""
-    return None
