@@ -62,8 +62,8 @@ ORDER = [
         ("Changes", "CHANGELOG.md"),
     ]),
 ]
-# Parts of rustdoc, which is a site of its own.
-IN_RUSTDOC = ("rust/eraser/how_to_read.md", "rust/src/words.md")
+# A part of rustdoc, which is a site of its own.
+IN_RUSTDOC = ("rust/src/words.md",)
 # Pages of packages, which stand beside the packages.
 BESIDE = ("c/README.md", "c/python/README.md", "rust/README.md")
 LINK = re.compile(r"(!?\[(?:[^\[\]]|\[[^\]]*\])*\]\()([^)\s]+)(\))")

@@ -181,7 +181,7 @@ def section(key, entry):
 
 def page():
     """The text of words.md."""
-    with open(os.path.join(os.path.dirname(__file__), "how_to_read.md"), encoding="utf-8") as file:
+    with open(os.path.join(os.path.dirname(__file__), "how_to_read.txt"), encoding="utf-8") as file:
         head = file.read()
     check_signs(head)
     out = ["<!-- Written by the eraser from crates/*/specs and docs/DEFINITIONS.md. -->", "", head]
@@ -191,7 +191,7 @@ def page():
         out += [f"# {title}: the words of {crate}", ""]
         for key in sorted(mine, key=lambda it: (it[1].lower(), it)): out += section(key, mine[key])
     dangling = set(re.findall(r"\]\(#([^)]+)\)", head)) - {anchor for _, anchor in anchors().values()}
-    if dangling: raise Bad(f"how_to_read.md has links to no word: {dangling}")
+    if dangling: raise Bad(f"how_to_read.txt has links to no word: {dangling}")
     return re.sub(r"\n{3,}", "\n\n", "\n".join(out)).strip() + "\n"
 
 
@@ -222,4 +222,4 @@ def check_signs(head):
         for module in modules:
             for name in re.findall(rf"(?<![\w.]){module}\.(\w+)", clause):
                 if f"{module}.{name}" not in told: lacking.setdefault(f"{module}.{name}", path)
-    if lacking: raise Bad(f"how_to_read.md doesn't say what these are: {lacking}")
+    if lacking: raise Bad(f"how_to_read.txt doesn't say what these are: {lacking}")
