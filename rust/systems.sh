@@ -9,8 +9,8 @@
 #
 # It takes the compiler RUSTC, or rustc. On Debian 12 `apt-get install rustc libstd-rust-dev-windows libstd-rust-dev-wasm32` gives
 # /usr/bin/rustc with two of these, and after `dpkg --add-architecture arm64` `apt-get install libstd-rust-dev:arm64` the third. That
-# compiler is Rust 1.63: the script gives it the one feature of 1.65 that the crate takes, `let ... else`. It also needs
-# gcc-aarch64-linux-gnu, qemu-user-static, gcc-mingw-w64-x86-64, wine and nodejs.
+# compiler is Rust 1.63: the script gives it the one feature of 1.65 that the crate takes, `let ... else`, and leaves slotrun out, in which
+# it refuses a use of that feature. It also needs gcc-aarch64-linux-gnu, qemu-user-static, gcc-mingw-w64-x86-64, wine and nodejs.
 #
 # What a machine lacks is named. The status is 0 if all three systems passed, 3 if one was left out, and 1 if one printed something else.
 set -euo pipefail
@@ -25,7 +25,7 @@ flags=(--edition 2021 -O --cap-lints allow)
 version=$("$compiler" --version | sed -E 's/rustc 1\.([0-9]+).*/\1/')
 if [ "$version" -lt 65 ]; then
     export RUSTC_BOOTSTRAP=1
-    flags+=('-Zcrate-attr=feature(let_else)')
+    flags+=('-Zcrate-attr=feature(let_else)' --cfg without_slotrun)
 fi
 features=()
 for feature in structures runs json internals; do
@@ -63,11 +63,13 @@ same() {
         (cd "$folder/data" && "${@:2}" "$name" $(cat ../args)) >"$out/printed"
         tr -d '\r' <"$out/printed" | cmp - "$folder/stdout" || { echo "rust/systems.sh: $name prints something else on $1" >&2; exit 1; }
     done
-    folder=$top/crates/slotrun
-    # shellcheck disable=SC2046
-    "${@:2}" slotrun $(cat "$folder/args") <"$folder/stdin" >"$out/printed"
-    tr -d '\r' <"$out/printed" | cmp - "$folder/stdout" || { echo "rust/systems.sh: slotrun prints something else on $1" >&2; exit 1; }
-    echo "$1: four programs print what the proved ones print"
+    if [ "$version" -ge 65 ]; then
+        folder=$top/crates/slotrun
+        # shellcheck disable=SC2046
+        "${@:2}" slotrun $(cat "$folder/args") <"$folder/stdin" >"$out/printed"
+        tr -d '\r' <"$out/printed" | cmp - "$folder/stdout" || { echo "rust/systems.sh: slotrun prints something else on $1" >&2; exit 1; }
+    fi
+    echo "$1: the programs print what the proved ones print"
 }
 
 system=aarch64-unknown-linux-gnu

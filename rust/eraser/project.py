@@ -26,6 +26,8 @@ LIBRARY_TREE, PROGRAM_TREE = "rust/src/proved", "rust/check/src/programs"
 PATCHES = {
     # In Rust a drop lends its fields, so the index is behind a reference.
     ("slotmap_secondary", "drain"): [("map.clear_from(index);", "map.clear_from(*index);")],
+    # Rust has this under `str` itself only since 1.87.
+    ("slotmap_script", "script"): [("match str::from_utf8(bytes) {", "match ::std::str::from_utf8(bytes) {")],
     # An exported macro is at the root of its crate in Rust.
     ("slotmap_rows", "lib"): [("mod call;", "pub use crate::{looked, written};\nmod call;")],
     # The features that these names need.

@@ -1,7 +1,7 @@
 //! `programs NAME ARGS ..`: the project's programs, erased.
 //!
 //! Their sources are generated, in `src/programs`. What they print is compared with what the proved programs print, by
-//! `tests/programs.rs`.
+//! `tests/programs.rs`. With `--cfg without_slotrun` the program slotrun is left out, for compilers before Rust 1.65.
 
 #[macro_use]
 #[path = "../rt.rs"]
@@ -14,7 +14,9 @@ mod programs {
     pub mod primary_rows;
     pub mod secondary_rows;
     pub mod slotmap_rows;
+    #[cfg(not(without_slotrun))]
     pub mod slotmap_script;
+    #[cfg(not(without_slotrun))]
     pub mod slotrun;
     pub mod structures_at_size;
 }
@@ -30,6 +32,7 @@ fn main() -> ExitCode {
         Some("joined_rows") => programs::joined_rows::main,
         Some("primary_rows") => programs::primary_rows::main,
         Some("secondary_rows") => programs::secondary_rows::main,
+        #[cfg(not(without_slotrun))]
         Some("slotrun") => programs::slotrun::main,
         Some("structures_at_size") => programs::structures_at_size::main,
         _ => {

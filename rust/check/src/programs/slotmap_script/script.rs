@@ -98,7 +98,7 @@ fn add_line<'a, C>(
 
 // Parses a line, or returns `None` if it isn't UTF-8 or not a line of a script.
 fn parse_line<'a, M, C: Commands<M>>(bytes: &'a [u8]) -> Option<Line<'a, C>> {
-    match str::from_utf8(bytes) {
+    match ::std::str::from_utf8(bytes) {
         Ok(text) => parse_text(text),
         Err(_) => None,
     }
