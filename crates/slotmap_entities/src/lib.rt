@@ -362,8 +362,9 @@ impl<K: Key, E: Drop, T: Tables<K>> World<K, E, T> {
         ensures room { T.keeps_room self.old.tables self.new.tables }
         ensures gives_back { T.gives_back self.old.tables self.new.tables }
     {
-        self.entities.clear();
+        // In this order, a component belongs to a live entity at each moment.
         self.tables.clear();
+        self.entities.clear();
     }
 
     /// Returns the value of an entity, or `None` if it doesn't exist.
