@@ -11,7 +11,7 @@ pub use Rattle.std.specs.List.{All, cons_option, find, fold, filter, filter_map,
 pub use Rattle.std.specs.Option.{option_and_then}
 pub use Rattle.slotmap.proofs.Callers.{same_or_other, get-insert_here, get-insert_other, spent_inserts, same_lent, leaves_by_removal, leaves_in_turn, inserted_fresh, live-insert_still, get-bind_other}
 pub use Rattle.slotmap.proofs.Callers.{spent_keeps, spent_leaves, clone_copies, beside_empty, removed_spent, spent_removes, remove_spent, spent_remove, get-put_live, get-put_other, get-bind_here}
-pub use Rattle.slotmap.proofs.Callers.{some_entry, exact_keys, keys_total, left_spent, len_removed, of_some, leaves_none, keys, clone_live, secondary, tied}
+pub use Rattle.slotmap.proofs.Callers.{some_entry, exact_keys, keys_total, left_spent, len_removed, none_found, of_some, leaves_none, keys, clone_live, secondary, tied}
 pub use Rattle.slotmap.specs.Words.{IsLive, Content, key_cmp, with_value, Inserts, Leaves, IsContent, Removes, Pairs, IsBeside, ClonesEqual, IsCloneBy, IsCloneOf, contains_key, IsSpent, KeepsSpent}
 pub use Rattle.slotmap.specs.Words.{Key, get}
 pub use Rattle.slotmap_bounded.proofs.Indices.{indices_inserted, indices_still, first_index, first_key, later_indices, key_at_live, keys_same, keys_without, times_key, before_back, behind_front}

@@ -12,7 +12,7 @@ ghost use Rattle.slotmap_graph.specs.Parts.{SeenEdge, IsJoined, avoids, touches,
 
 use crate::lists::{put_last, take_out};
 use crate::{Edge, EdgeError, EdgeKey, Graph};
-use slotmap::{InsertError, Key, ReserveError};
+use slotmap::{InsertError, Key, ReserveError, drop_may_unwind};
 use slotmap_bounded::inner;
 
 impl<K: Key, N: Drop, E: Drop> Graph<K, N, E> {
@@ -287,6 +287,34 @@ impl<K: Key, N: Drop, E: Drop> Graph<K, N, E> {
         self.nodes.remove(node)
     }
 
+    // Removes all nodes and all edges, node by node. While a value is dropped, the maps and the lists agree.
+    fn clear_each(&mut self)
+        ensures nodes { self.new.nodes.live ≡ map.empty }
+        ensures edges { self.new.edges.live ≡ map.empty }
+        ensures nodes_leave { Leaves self.old.nodes self.new.nodes }
+        ensures edges_leave { Leaves self.old.edges self.new.edges }
+        ensures nodes_capacity { space self.new.nodes ≡ space self.old.nodes }
+        ensures edges_capacity { space self.new.edges ≡ space self.old.edges }
+        ensures links { self.new.links ≡ self.old.links }
+        ensures for_good { (k : KeyOf) → IsLive self.old.nodes k → IsSpent self.new.nodes k }
+        ensures edges_for_good { (k : KeyOf) → IsLive self.old.edges k → IsSpent self.new.edges k }
+        ensures gone { KeepsSpent self.old.nodes self.new.nodes }
+        ensures edges_gone { KeepsSpent self.old.edges self.new.edges }
+        ensures out { (k : KeyOf) → edges_at self.new.out k ≡ [] }
+        ensures into { (k : KeyOf) → edges_at self.new.into k ≡ [] }
+    {
+        // by the contracts of these calls, the nodes and the edges are well formed
+        let _ = self.node_capacity();
+        let _ = self.edge_capacity();
+        let mut last = None;
+        while let Some(node) = self.next_node(last) {
+            self.remove_node(node);
+            last = Some(node);
+        }
+        // by the contract of `node_count`, each edge joins two nodes that exist
+        let _ = self.node_count();
+    }
+
     /// Removes all nodes and all edges. Their keys are never used again. No room is lost, and the
     /// capacities stay.
     ///
@@ -314,6 +342,10 @@ impl<K: Key, N: Drop, E: Drop> Graph<K, N, E> {
         ensures out { (k : KeyOf) → edges_at self.new.out k ≡ [] }
         ensures into { (k : KeyOf) → edges_at self.new.into k ≡ [] }
     {
+        if drop_may_unwind::<N>() || drop_may_unwind::<E>() {
+            self.clear_each();
+            return;
+        }
         self.nodes.clear();
         self.edges.clear();
         self.out.clear();

@@ -18,6 +18,7 @@ pub use Rattle.std.specs.Int.{int_wrap, w32}
 pub use Rattle.std.specs.List.{All, FoldsTo, each_same, filter, fold}
 pub use Rattle.slotmap.proofs.Callers.{clone_copies, clone_live, exact_keys, get-insert_here, get-insert_other, inserted_fresh, keys, keys_total, leaves_by_removal, leaves_by_write, leaves_in_turn}
 pub use Rattle.slotmap.proofs.Callers.{leaves_none, left_spent, len_removed, live-insert_still, none_of, same_lent, same_or_other, same_unlent, some_entry, spent_inserts, spent_keeps, spent_leaves}
+pub use Rattle.slotmap.proofs.Callers.{none_found, of_some}
 pub use Rattle.slotmap.specs.Words.{ClonesEqual, Content, Inserts, IsCloneBy, IsCloneOf, IsContent, IsLive, Keeps, KeepsSpent, Key, Leaves, MakesRoom, key_cmp, most, same_keys, used}
 pub use Rattle.slotmap_bounded.proofs.Indices.{back_has, back_key, by_live, first_index, first_key, found_has, found_live, found_same, found_zero, front_has, front_key, indices_inserted}
 pub use Rattle.slotmap_bounded.proofs.Indices.{indices_still, key_at_live, key_is, keys_same, keys_without, last_key, later_indices, no_key, same_at, some_is, times_key}

@@ -1,10 +1,11 @@
 //! The nodes under their keys. A clause sees each with the keys of its parent and of its children.
 
 ghost use Rattle.std.specs.Prelude.{◌≡◌, ◌≢◌, ◌<◌, ◌≤◌, ◌+◌, ◌++◌, ◌∷◌, ◌↔◌, [], Some, None, IfOk, IfErr, IsOk, IsSome, IsTrue, OnErr, List, true, map as list_map, option_copied, option_map};
+ghost use Rattle.std.specs.Prelude.{IfNone, IfSome};
 ghost use Rattle.std.specs.FinMap as map;
 ghost use Rattle.std.specs.Borrow.{sem};
 ghost use Rattle.std.specs.Option.{option_copied_mut};
-ghost use Rattle.slotmap.specs.Words.{Key as KeyOf, HasVacant, IsContent, IsNew, IsSpent, KeepsSpent, Inserts, Keeps, Leaves, MakesRoom, RefusesCapacity, used};
+ghost use Rattle.slotmap.specs.Words.{Key as KeyOf, HasVacant, IsContent, IsNew, IsSpent, KeepsSpent, Inserts, Keeps, Leaves, MakesRoom, RefusesCapacity, index_after, used};
 ghost use Rattle.slotmap_bounded.specs.Bounded.{bound};
 ghost use Rattle.slotmap_bounded.specs.KeyLists.{last_or, times};
 ghost use Rattle.slotmap_links.specs.Lists.{first_or};
@@ -228,6 +229,17 @@ impl<T: Drop> Nodes<T> {
         ensures { result ≡ in_front None node (siblings_of self.now.nodes.live node) }
     {
         key_of(&self.values, self.children.prev(index_of(node)))
+    }
+
+    // The node with the least index above that of `node`. With none it is the first node.
+    pub fn next_after(&self, node: Option<DefaultKey>) -> Option<DefaultKey>
+        ensures live { IfSome result (λ found. has_node self.now.nodes.live found) }
+        ensures first { IfSome result (λ found. (other : KeyOf) → has_node self.now.nodes.live other →
+            index_after (λ k. k) node ≤ other.index → found.index ≤ other.index) }
+        ensures none { IfNone result ((other : KeyOf) → has_node self.now.nodes.live other → other.index < index_after (λ k. k) node) }
+        ensures valid { IsContent true self.now.nodes }
+    {
+        self.values.next_after(node)
     }
 
     // Adds a node with this parent and no children. It is in no list.

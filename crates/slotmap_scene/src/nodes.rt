@@ -3,7 +3,7 @@
 ghost use Rattle.std.specs.Prelude.{◌≡◌, ◌↔◌, ◌+◌, ◌<◌, ◌≤◌, ◌++◌, ◌∷◌, [], Some, None, IfOk, IfErr, IsOk, OnOk, OnErr, IfSome, IfNone, OnSome};
 ghost use Rattle.std.specs.Prelude.{IsTrue, true, length, option_map};
 ghost use Rattle.std.specs.FinMap as map;
-ghost use Rattle.slotmap.specs.Words.{Key as KeyOf, HasVacant, IsSpent, KeepsSpent, Inserts, Keeps, Leaves};
+ghost use Rattle.slotmap.specs.Words.{Key as KeyOf, HasVacant, IsSpent, IsContent, KeepsSpent, Inserts, Keeps, Leaves, index_after};
 ghost use Rattle.slotmap_scene.specs.Below.{all_below};
 ghost use Rattle.slotmap_scene.specs.Climb.{IsWithin, has_node, lacks_node};
 ghost use Rattle.slotmap_scene.specs.Family.{IsMoved, IsNewChild, IsScene, as_last_child, as_root, child, children_of, forgets, value_of, with_child};
@@ -12,7 +12,7 @@ ghost use Rattle.slotmap_scene.specs.Refusals.{RefusesNode, RefusesChild, Refuse
 
 use crate::tree::Side;
 use crate::{AddError, ReparentError, Scene};
-use slotmap::{InsertError, Key};
+use slotmap::{DefaultKey, InsertError, Key, drop_may_unwind};
 use slotmap_bounded::{inner, outer};
 
 impl<K: Key, T: Drop> Scene<K, T> {
@@ -184,6 +184,35 @@ impl<K: Key, T: Drop> Scene<K, T> {
         Some(self.nodes.remove_tree(node))
     }
 
+    // The node with the least index above that of `node`. With none it is the first node.
+    fn node_after(&self, node: Option<DefaultKey>) -> Option<K>
+        ensures live { IfSome result (λ found. has_node self.now.nodes.live (K.data_of found)) }
+        ensures first { IfSome result (λ found. (other : KeyOf) → has_node self.now.nodes.live other →
+            index_after (λ k. k) node ≤ other.index → (K.data_of found).index ≤ other.index) }
+        ensures none { IfNone result ((other : KeyOf) → has_node self.now.nodes.live other → other.index < index_after (λ k. k) node) }
+        ensures valid { IsContent true self.now.nodes }
+    {
+        Some(outer(self.nodes.next_after(node)?))
+    }
+
+    // Removes all nodes, subtree by subtree. While a value is dropped, the nodes and the lists of children
+    // agree.
+    fn clear_each(&mut self)
+        ensures empty { self.new.nodes.live ≡ map.empty }
+        ensures leaves { Leaves self.old.nodes self.new.nodes }
+        ensures capacity { memory self.new ≡ memory self.old }
+        ensures for_good { (k : KeyOf) → has_node self.old.nodes.live k → IsSpent self.new.nodes k }
+        ensures stale { KeepsSpent self.old.nodes self.new.nodes }
+    {
+        // By what `capacity` ensures, the nodes are well formed.
+        let _ = self.capacity();
+        let mut last = None;
+        while let Some(node) = self.node_after(last) {
+            self.remove(node);
+            last = Some(inner(node));
+        }
+    }
+
     /// Removes all nodes. Their keys, and those that were spent before, are never used again. No room is
     /// lost, and the capacity stays.
     ///
@@ -203,6 +232,10 @@ impl<K: Key, T: Drop> Scene<K, T> {
         ensures for_good { (k : KeyOf) → has_node self.old.nodes.live k → IsSpent self.new.nodes k }
         ensures stale { KeepsSpent self.old.nodes self.new.nodes }
     {
+        if drop_may_unwind::<T>() {
+            self.clear_each();
+            return;
+        }
         self.nodes.clear();
     }
 }

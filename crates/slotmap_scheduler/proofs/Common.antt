@@ -25,13 +25,13 @@ pub use Rattle.std.specs.declared.cmp.Ordering.TheVariants.{Less}
 pub use Rattle.std.specs.declared.vec.Vec.{Vec}
 pub use Rattle.slotmap.proofs.Callers.{alike_or_apart, alone_spent, clone_len, contains-keys_of, exact_keys, get-insert_here, get-insert_other, get_after_insert, get_after_remove, inserted_fresh}
 pub use Rattle.slotmap.proofs.Callers.{inserted_len, inserted_not_spent, itself, keys, keys_total, leaves_by_removal, leaves_in_turn, leaves_none, left_spent, len-keys_of, len_removed}
-pub use Rattle.slotmap.proofs.Callers.{live-insert_still, none_of, removed_len, removed_spent, same_lent, same_or_other, same_unlent, some_entry, spent_alone, spent_inserts}
+pub use Rattle.slotmap.proofs.Callers.{live-insert_still, none_of, of_some, removed_len, removed_spent, same_lent, same_or_other, same_unlent, some_entry, spent_alone, spent_inserts}
 pub use Rattle.slotmap.proofs.Callers.{spent_leaves, spent_removes, tied, untied, vacant_at_most}
 pub use Rattle.slotmap.specs.Words.{AreClones, Content, Inserts, IsCloneBy, IsCloneOf, IsContent, IsCopy, IsLive, IsNew, IsSpent, KeepsSpent, Key, Leaves, MakesRoom, Removes, index_after, key_cmp}
 pub use Rattle.slotmap.specs.Words.{used, with_value, without_values}
 pub use Rattle.slotmap_bounded.proofs.Alone.{alone-copy, alone-inserts, alone-keeps, alone-new, alone-removes, alone-written, used_alone}
 pub use Rattle.slotmap_bounded.proofs.Mapped.{contains-mapped, content-mapped, get-mapped, keys-mapped, len-mapped, live-mapped, mapped-clones, mapped-empty, mapped-insert, mapped-inserts}
-pub use Rattle.slotmap_bounded.proofs.Mapped.{mapped-leaves, mapped-new, mapped-removes, mapped-room, mapped-stays, mapped-with, mapped-written, used-mapped}
+pub use Rattle.slotmap_bounded.proofs.Mapped.{mapped-leaves, mapped-new, mapped-removes, mapped-room, mapped-stays, mapped-with, mapped-written, some-mapped, used-mapped}
 pub use Rattle.slotmap_bounded.proofs.Shown.{shown_content, shown_leaves}
 pub use Rattle.slotmap_bounded.specs.Mapped.{map_values}
 pub use denote.Param.Always.{always_mut, mut_next}

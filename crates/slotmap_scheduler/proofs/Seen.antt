@@ -1,5 +1,5 @@
 -- What a scheduler's user sees, by what its map holds.
-use Rattle.std.proofs.Common.{◌<◌, ◌∷◌, ◌≡◌, ◌≤◌}
+use Rattle.std.proofs.Common.{◌-◌, ◌<◌, ◌∷◌, ◌≡◌, ◌≤◌}
 use Rattle.slotmap_scheduler.proofs.Common.{All, Content, Entry, IsContent, IsLive, IsSchedule, Job, Key, List, ListsJobs, None, Option, Some, Turn, Vec, [], ap, arith, false, get-mapped}
 use Rattle.slotmap_scheduler.proofs.Common.{heap_entry, is_some, job_of, len-mapped, length, length-map, list_map, no_entry, option_map, precedes, refl, shown, slice_get}
 use Rattle.slotmap_scheduler.proofs.Common.{slice_get-get_or, sym, timed, true, turn_at, unplaced, waiting_of, without, ℕ, ◌∙◌}
@@ -67,6 +67,17 @@ module _ {T Z : Type 0} {jobs : Content (Job T)} {count : ℕ} {heap : Vec Entry
       no_items : (xs : List Entry) → slice_get xs 0 ≡ None → length xs ≡ 0
       no_items [] none = refl
       no_items (x ∷ xs) none = absurd (cc)
+
+  -- an entry, and the last one where there is none
+  pub entry_waits : (i : ℕ) (e : Entry) → slice_get heap.items i ≡ Some e → is_some (job_of e.handle (waiting_of (timed jobs).live)) ≡ true
+  entry_waits i e there = grind (arith, job_there (map.get jobs.live e.handle) i e.turn (is.indexed.placed.from i e.handle e.turn (ap (option_map _) there)), seen_is is e.handle)
+
+  pub none_last_waits : slice_get heap.items (length heap.items - 1) ≡ None → waiting_of (timed jobs).live ≡ []
+  none_last_waits none = empty_waits (no_last heap.items none)
+    where
+      no_last : (xs : List Entry) → slice_get xs (length xs - 1) ≡ None → slice_get xs 0 ≡ None
+      no_last [] none = refl
+      no_last (x ∷ xs) none = absurd (grind (arith, slice_get-get_or (x ∷ xs) (length (x ∷ xs) - 1) no_entry))
 
 -- the jobs as an iterator yields them
 module _ {T Z : Type 0} {jobs : Content (Job T)} {count : ℕ} {heap : Vec Entry Z} (is : IsSchedule jobs count heap) where

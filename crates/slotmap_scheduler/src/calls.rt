@@ -5,11 +5,12 @@ ghost use Rattle.std.specs.List.{All};
 ghost use Rattle.std.specs.FinMap as map;
 ghost use Rattle.slotmap.specs.Words.{Key as KeyOf, HasVacant, IsContent, MakesRoom, Inserts, Removes, Keeps, Leaves, IsSpent, KeepsSpent, RefusesCapacity, used};
 ghost use Rattle.slotmap_scheduler.specs.Schedule.{job_of, in_turn, without, last_turn, IsOnce, IsByTime, RefusesJob, RefusesMove};
+ghost use Rattle.slotmap_scheduler.specs.Drain.{EmptiesSchedule};
 ghost use Rattle.slotmap_scheduler.specs.Listed.{TakesDue, due_at};
 
 use crate::heap::{count_due, make_room, put_in, set_turn, take_out};
 use crate::{RescheduleError, ScheduleError, Scheduler};
-use slotmap::{Key, ReserveError};
+use slotmap::{Key, ReserveError, drop_may_unwind};
 use slotmap_bounded::{inner, outer};
 use std::alloc::AllocError;
 
@@ -403,6 +404,27 @@ impl<K: Key, T: Drop> Scheduler<K, T> {
         Ok(())
     }
 
+    // A handle under which a job waits, or `None` if none waits. Its entry is the last one in the heap, so
+    // to cancel it takes constant time.
+    fn last(&self) -> Option<K>
+        ensures waits { IfSome result (λ handle. is_some (job_of (K.data_of handle) self.now.waiting) ≡ true) }
+        ensures none { IfNone result (self.now.waiting ≡ []) }
+    {
+        let entry = self.heap.last()?;
+        Some(outer(entry.handle))
+    }
+
+    // Removes all jobs, one by one. While one is dropped, the map and the heap agree.
+    fn clear_each(&mut self)
+        ensures { EmptiesSchedule self.old self.new }
+    {
+        while let Some(handle) = self.last() {
+            self.cancel(handle);
+        }
+        // By what `len` ensures, no handle is live.
+        let _ = self.len();
+    }
+
     /// Removes all jobs. Their handles are never used again. The capacity stays, and no room is lost.
     ///
     /// It takes time linear in the number of slots.
@@ -423,6 +445,10 @@ impl<K: Key, T: Drop> Scheduler<K, T> {
         ensures turns { self.new.turns ≡ self.old.turns }
         ensures stale { KeepsSpent self.old.handles self.new.handles }
     {
+        if drop_may_unwind::<T>() {
+            self.clear_each();
+            return;
+        }
         self.jobs.clear();
         self.heap.clear();
     }
