@@ -22,17 +22,17 @@ def has_derive(item, name):
     return any(it.name == "derive" and name in derives(it) for it in item.attributes)
 
 
-def take_attributes(t, items, edits):
+def take_attributes(source, items, edits):
     """Takes attributes out, or changes them."""
-    silent = {id(it): has_own_debug(t, item) for item in items for it in item.attributes}
+    silent = {id(it): has_own_debug(source, item) for item in items for it in item.attributes}
     known = {it.start: it for item in items for it in item.attributes}
     at = 0
-    while at < len(t):
-        if t[at] != ("mark", "#"):
+    while at < len(source):
+        if source[at] != ("mark", "#"):
             at += 1
             continue
-        of_file = t[at + 1] == ("mark", "!")
-        attribute = known.get(at) or Attribute(t, at + of_file)
+        of_file = source[at + 1] == ("mark", "!")
+        attribute = known.get(at) or Attribute(source, at + of_file)
         if of_file:
             take_file_attribute(attribute, at, edits)
         else:
@@ -74,6 +74,6 @@ def take_derive(attribute, is_silent, edits):
     edits.put(attribute.start, f"#[derive({', '.join(kept)})]")
 
 
-def has_own_debug(t, item):
+def has_own_debug(source, item):
     """Whether an item is an error with a parameter that is a type: errors.py writes its `Debug`, with no bound on what it carries."""
-    return has_derive(item, "Error") and has_derive(item, "Debug") and re.search(r"<(?:'\w+, )*[A-Z]", item.header(t)) is not None
+    return has_derive(item, "Error") and has_derive(item, "Debug") and re.search(r"<(?:'\w+, )*[A-Z]", item.header(source)) is not None

@@ -6,36 +6,36 @@ from .items import Attribute
 from .tokens import Bad, after_space, matching, plain
 
 
-def impls_of_errors(t, items):
+def impls_of_errors(source, items):
     """The text of the impls that the derives of a file stand for."""
     found = []
     for item in items:
         if item.kind not in ("struct", "enum"):
             continue
-        if has_own_debug(t, item):
-            found.append(debug_impl(t, item))
+        if has_own_debug(source, item):
+            found.append(debug_impl(source, item))
         if has_derive(item, "Error"):
-            found += error_impls(t, item)
-    refuse_other_messages(t, items)
+            found += error_impls(source, item)
+    refuse_other_messages(source, items)
     return found
 
 
-def refuse_other_messages(t, items):
+def refuse_other_messages(source, items):
     """A message that no derived error reads is unknown."""
     errors = [item for item in items if item.kind in ("struct", "enum") and has_derive(item, "Error")]
-    for at in range(len(t) - 2):
-        if t[at] == ("mark", "#") and t[at + 2][1] in ("error", "error_bound"):
+    for at in range(len(source) - 2):
+        if source[at] == ("mark", "#") and source[at + 2][1] in ("error", "error_bound"):
             if not any(item.whole <= at < item.end for item in errors):
-                raise Bad(f"#[{t[at + 2][1]}] of what isn't an error", t[at].line)
+                raise Bad(f"#[{source[at + 2][1]}] of what isn't an error", source[at].line)
 
 
-def generics_of(t, item):
+def generics_of(source, item):
     """A type's parameters as they are declared, and by their names alone, each in angle brackets."""
-    declared = re.search(r"<.*>", item.header(t))
+    declared = re.search(r"<.*>", item.header(source))
     if not declared:
         return "", ""
     if re.search(r"[(<].*[(<]|\bwhere\b", declared.group()):
-        raise Bad(f"the parameters of {item.name}", t[item.start].line)
+        raise Bad(f"the parameters of {item.name}", source[item.start].line)
     names = re.findall(r"(?:^<|, )('?\w+)", declared.group())
     return declared.group(), f"<{', '.join(names)}>"
 
@@ -51,13 +51,13 @@ def match_text(arms, write):
     return "match self {\n" + "".join(f"            {pattern} => {write(said)},\n" for pattern, said in arms) + "        }"
 
 
-def debug_impl(t, item):
+def debug_impl(source, item):
     """Debug prints which case an error is, and two points for what it carries, so that any value may be carried."""
-    generics, names = generics_of(t, item)
+    generics, names = generics_of(source, item)
     if item.kind == "struct":
-        body = f'f.write_str("{shape_text(item.name, struct_shape(t, item))}")'
+        body = f'f.write_str("{shape_text(item.name, struct_shape(source, item))}")'
     else:
-        arms = [(f"{item.name}::{it.name}{ANY[it.shape]}", shape_text(it.name, it.shape)) for it in variants(t, item)]
+        arms = [(f"{item.name}::{it.name}{ANY[it.shape]}", shape_text(it.name, it.shape)) for it in variants(source, item)]
         body = match_text(arms, lambda said: f'f.write_str("{said}")')
     return impl_text(generics, "Debug", item.name, names, body)
 
@@ -70,11 +70,11 @@ def shape_text(name, shape):
     return name + ANY[shape]
 
 
-def struct_shape(t, item):
+def struct_shape(source, item):
     """How a struct's fields are written."""
-    if t[item.header_end] == ("mark", "{"):
+    if source[item.header_end] == ("mark", "{"):
         return "{"
-    return "(" if any(token == ("mark", "(") for token in t[item.at:item.header_end]) else ""
+    return "(" if any(token == ("mark", "(") for token in source[item.at:item.header_end]) else ""
 
 
 class Variant:
@@ -84,38 +84,38 @@ class Variant:
         self.message, self.name, self.shape, self.fields = message, name, shape, fields
 
 
-def variants(t, item):
+def variants(source, item):
     """The cases of an enum."""
     found, message = [], None
-    at, end = after_space(t, item.header_end + 1), item.end - 1
+    at, end = after_space(source, item.header_end + 1), item.end - 1
     while at < end:
-        if t[at] == ("mark", "#"):
-            attribute = Attribute(t, at)
+        if source[at] == ("mark", "#"):
+            attribute = Attribute(source, at)
             message = attribute.argument if attribute.name == "error" else message
-            at = after_space(t, attribute.end)
+            at = after_space(source, attribute.end)
             continue
-        if t[at][0] != "word":
-            raise Bad(f"{t[at][1]} in {item.name}", t[at].line)
-        name, at = t[at][1], after_space(t, at + 1)
-        shape = t[at][1] if t[at][1] in ("(", "{") else ""
-        close = matching(t, at) if shape else at
-        found.append(Variant(message, name, shape, plain(t[at + 1:close - 1]) if shape else ""))
-        message, at = None, after_space(t, close)
-        if at < end and t[at] != ("mark", ","):
-            raise Bad(f"{t[at][1]} in {item.name}", t[at].line)
-        at = after_space(t, at + 1)
+        if source[at][0] != "word":
+            raise Bad(f"{source[at][1]} in {item.name}", source[at].line)
+        name, at = source[at][1], after_space(source, at + 1)
+        shape = source[at][1] if source[at][1] in ("(", "{") else ""
+        close = matching(source, at) if shape else at
+        found.append(Variant(message, name, shape, plain(source[at + 1:close - 1]) if shape else ""))
+        message, at = None, after_space(source, close)
+        if at < end and source[at] != ("mark", ","):
+            raise Bad(f"{source[at][1]} in {item.name}", source[at].line)
+        at = after_space(source, at + 1)
     return found
 
 
-def error_impls(t, item):
+def error_impls(source, item):
     """Display and Error of a type that derives `Error`."""
-    generics, names = generics_of(t, item)
+    generics, names = generics_of(source, item)
     bound = next((it.argument for it in item.attributes if it.name == "error_bound"), None)
     shown = f"<{bound.replace('Display', 'std::fmt::Display')}>" if bound else generics
     if item.kind == "struct":
         body = f"f.write_str({struct_message(item)})"
     else:
-        body = match_text([arm_of(item, it) for it in variants(t, item)], lambda said: f"write!(f, {said})")
+        body = match_text([arm_of(item, it) for it in variants(source, item)], lambda said: f"write!(f, {said})")
     return [impl_text(shown, "Display", item.name, names, body), f"impl{shown} std::error::Error for {item.name}{names} {{}}\n"]
 
 

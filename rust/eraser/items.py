@@ -33,82 +33,82 @@ class Item:
         """Whether braces follow the header."""
         return self.end - self.header_end > 1
 
-    def header(self, t):
+    def header(self, source):
         """The text of the header."""
-        return plain(t[self.start:self.header_end])
+        return plain(source[self.start:self.header_end])
 
 
 class Attribute:
     """An attribute: its name, what its brackets hold, and its place."""
 
-    def __init__(self, t, at):
+    def __init__(self, source, at):
         self.start = at
-        opened = after_space(t, at + 1)
-        if t[opened] != ("mark", "["):
-            raise Bad("# without [", t[at].line)
-        self.end = matching(t, opened)
-        self.inside = plain(t[opened + 1:self.end - 1])
-        self.name = t[after_space(t, opened + 1)][1]
+        opened = after_space(source, at + 1)
+        if source[opened] != ("mark", "["):
+            raise Bad("# without [", source[at].line)
+        self.end = matching(source, opened)
+        self.inside = plain(source[opened + 1:self.end - 1])
+        self.name = source[after_space(source, opened + 1)][1]
         self.argument = self.inside[len(self.name):].strip().removeprefix("(").removesuffix(")").strip()
-        self.line = t[at].line
+        self.line = source[at].line
 
 
 class Reader:
     """Reads the items of a file."""
 
-    def __init__(self, t, macros):
-        self.t, self.macros = t, macros
+    def __init__(self, source, macros):
+        self.source, self.macros = source, macros
         self.items = []
         self.file_attributes = []
 
     def read(self):
         """All items, each after the one that holds it."""
-        at = after_space(self.t, 0)
+        at = after_space(self.source, 0)
         while self.word(at) == "#" and self.word(at + 1) == "!":
-            attribute = Attribute(self.t, at + 1)
+            attribute = Attribute(self.source, at + 1)
             attribute.start = at
             self.file_attributes.append(attribute)
-            at = after_space(self.t, attribute.end)
-        self.read_between(at, len(self.t), None)
+            at = after_space(self.source, attribute.end)
+        self.read_between(at, len(self.source), None)
         return self.items
 
     def word(self, at):
         """The text of a token, or nothing past the end."""
-        return self.t[at][1] if at < len(self.t) else ""
+        return self.source[at][1] if at < len(self.source) else ""
 
     def read_between(self, at, end, owner):
         """The items between two places."""
-        at = after_space(self.t, at)
+        at = after_space(self.source, at)
         while at < end:
-            at = after_space(self.t, self.read_one(at, owner))
+            at = after_space(self.source, self.read_one(at, owner))
 
     def read_one(self, at, owner):
         """One item; returns the place behind it."""
         attributes = []
-        while self.t[at] == ("mark", "#"):
-            attributes.append(Attribute(self.t, at))
-            at = after_space(self.t, attributes[-1].end)
+        while self.source[at] == ("mark", "#"):
+            attributes.append(Attribute(self.source, at))
+            at = after_space(self.source, attributes[-1].end)
         if self.is_ghost(at):
             return self.read_ghost(at, owner, attributes)
         if self.word(at) in self.macros and self.word(at) != "macro_rules" and self.word(at + 1) == "!":
             return self.read_macro_call(at)
         item = Item("", owner, attributes, at, at)
         item.at = self.read_visibility(item)
-        if self.word(item.at) == "const" and self.word(after_space(self.t, item.at + 1)) == "fn":
-            item.at = after_space(self.t, item.at + 1)
+        if self.word(item.at) == "const" and self.word(after_space(self.source, item.at + 1)) == "fn":
+            item.at = after_space(self.source, item.at + 1)
         item.kind = self.word(item.at)
         self.read_parts(item)
         return item.end
 
     def is_ghost(self, at):
         """Whether a ghost item stands here, public or not."""
-        return self.t[at][0] == "ghost" or self.word(at) == "pub" and self.t[after_space(self.t, at + 1)][0] == "ghost"
+        return self.source[at][0] == "ghost" or self.word(at) == "pub" and self.source[after_space(self.source, at + 1)][0] == "ghost"
 
     def read_ghost(self, at, owner, attributes):
         """A ghost item belongs to the item that it stands in."""
         if attributes:
-            raise Bad("an attribute of a ghost item", self.t[at].line)
-        place = at if self.t[at][0] == "ghost" else after_space(self.t, at + 1)
+            raise Bad("an attribute of a ghost item", self.source[at].line)
+        place = at if self.source[at][0] == "ghost" else after_space(self.source, at + 1)
         if owner:
             owner.ghosts.append(place)
         return place + 1
@@ -120,15 +120,15 @@ class Reader:
             return at
         if self.word(at + 1) != "(":
             item.public = True
-            return after_space(self.t, at + 1)
+            return after_space(self.source, at + 1)
         if self.word(at + 2) not in VISIBILITY_PLACES or self.word(at + 3) != ")":
-            raise Bad(f"pub({self.word(at + 2)}", self.t[at].line)
+            raise Bad(f"pub({self.word(at + 2)}", self.source[at].line)
         item.restricted = True
-        return after_space(self.t, at + 4)
+        return after_space(self.source, at + 4)
 
     def read_parts(self, item):
         """Reads an item from its kind on."""
-        kind, line = item.kind, self.t[item.start].line
+        kind, line = item.kind, self.source[item.start].line
         if kind == "macro_rules" and kind in self.macros:
             item.header_end = self.find(item.at, "{")
         elif kind in FLAT:
@@ -137,10 +137,10 @@ class Reader:
             item.header_end = self.find(item.at, "{", ";")
         else:
             raise Bad(f"{kind} begins no item that the eraser knows", line)
-        item.name = "" if kind == "impl" else self.word(after_space(self.t, item.at + 1 + (kind == "macro_rules")))
+        item.name = "" if kind == "impl" else self.word(after_space(self.source, item.at + 1 + (kind == "macro_rules")))
         braced = self.word(item.header_end) == "{"
-        item.end = matching(self.t, item.header_end) if braced else item.header_end + 1
-        item.clauses = [at for at in range(item.start, item.header_end) if self.t[at][0] == "clause"]
+        item.end = matching(self.source, item.header_end) if braced else item.header_end + 1
+        item.clauses = [at for at in range(item.start, item.header_end) if self.source[at][0] == "clause"]
         if item.clauses and kind != "fn":
             raise Bad(f"a clause of {kind} {item.name}", line)
         self.items.append(item)
@@ -152,42 +152,42 @@ class Reader:
     def read_fields(self, item):
         """The ghost fields of a type: what they say must hold of it, so no other field may be public."""
         inside = range(item.header_end + 1, item.end - 1)
-        item.ghosts = [at for at in inside if self.t[at][0] == "ghost"]
-        ghosts_named = [before_space(self.t, at) for at in item.ghosts]
-        public = [at for at in inside if self.t[at] == ("word", "pub") and at not in ghosts_named]
+        item.ghosts = [at for at in inside if self.source[at][0] == "ghost"]
+        ghosts_named = [before_space(self.source, at) for at in item.ghosts]
+        public = [at for at in inside if self.source[at] == ("word", "pub") and at not in ghosts_named]
         if item.ghosts and public:
-            raise Bad(f"{item.name} has a ghost field beside a public one, which anyone may write", self.t[item.start].line)
+            raise Bad(f"{item.name} has a ghost field beside a public one, which anyone may write", self.source[item.start].line)
 
     def read_macro_call(self, at):
         """A macro that writes impls."""
-        opened = after_space(self.t, at + 2)
-        end = matching(self.t, opened)
+        opened = after_space(self.source, at + 2)
+        end = matching(self.source, opened)
         return end + 1 if self.word(end) == ";" else end
 
     def find(self, at, *marks):
         """The next of some marks that stands in no bracket."""
-        while at < len(self.t):
-            if self.t[at][0] == "mark" and self.t[at][1] in marks:
+        while at < len(self.source):
+            if self.source[at][0] == "mark" and self.source[at][1] in marks:
                 return at
-            at = matching(self.t, at) if self.t[at] in (("mark", "("), ("mark", "[")) else at + 1
+            at = matching(self.source, at) if self.source[at] in (("mark", "("), ("mark", "[")) else at + 1
         raise Bad("an item has no end")
 
     def find_end(self, at):
         """The next semicolon that stands in no bracket."""
-        while at < len(self.t) and self.t[at] != ("mark", ";"):
-            at = matching(self.t, at) if self.t[at][0] == "mark" and self.t[at][1] in "([{" else at + 1
-        if at == len(self.t):
+        while at < len(self.source) and self.source[at] != ("mark", ";"):
+            at = matching(self.source, at) if self.source[at][0] == "mark" and self.source[at][1] in "([{" else at + 1
+        if at == len(self.source):
             raise Bad("an item has no semicolon")
         return at
 
 
-def signature_clauses(t, item):
+def signature_clauses(source, item):
     """The clauses of a function in their order, each after the comments that stand before it."""
     found = []
     for at in item.clauses:
         said, place = [], at - 1
-        while place > item.at and (is_blank(t[place])):
-            if t[place][0] == "comment":
+        while place > item.at and (is_blank(source[place])):
+            if source[place][0] == "comment":
                 said.insert(0, place)
             place -= 1
         found += said + [at]

@@ -31,10 +31,11 @@ PATCHES = {
     # An exported macro is at the root of its crate in Rust.
     ("slotmap_rows", "lib"): [("mod call;", "pub use crate::{looked, written};\nmod call;")],
     # The features that these names need.
-    ("slotmap", "lib"): [("pub use crate::proved::slotmap_json::{", '#[cfg(feature = "json")]\npub use crate::proved::slotmap_json::{'),
-                         ("pub use crate::proved::slotmap_run::joined", '#[cfg(feature = "runs")]\npub use crate::proved::slotmap_run::joined'),
-                         ("pub use crate::proved::slotmap_run::primary", '#[cfg(feature = "runs")]\npub use crate::proved::slotmap_run::primary'),
-                         ("pub use crate::proved::slotmap_run::secondary", '#[cfg(feature = "runs")]\npub use crate::proved::slotmap_run::secondary')],
+    ("slotmap", "lib"): [
+        (f"pub use crate::proved::{name}", f'#[cfg(feature = "{feature}")]\npub use crate::proved::{name}')
+        for name, feature in (("slotmap_json", "json"), ("slotmap_run::joined", "runs"), ("slotmap_run::primary", "runs"),
+                              ("slotmap_run::secondary", "runs"))
+    ],
 }
 # Files whose functions src/rt has, written by hand: their names alone are erased.
 IN_SHIM = {("slotmap_core", "sure"): "sure"}
@@ -57,7 +58,7 @@ class File:
         self.items = Reader(self.tokens, macros).read()
 
     @property
-    def source(self):
+    def name(self):
         """The name of the file in the project."""
         return f"crates/{self.crate}/src/{self.path}.rt"
 
@@ -103,8 +104,10 @@ def macros_of(crate):
 def files_of(crate):
     """The files of a crate."""
     macros = macros_of(crate)
-    made = lambda path, read: tell_place(f"crates/{crate}/src/{path}.rt", lambda: File(crate, path, read, macros))
-    return [made(path, read) for path, read in sources_of(crate).items()]
+    found = []
+    for path, read in sources_of(crate).items():
+        found.append(tell_place(f"crates/{crate}/src/{path}.rt", lambda: File(crate, path, read, macros)))
+    return found
 
 
 def refuse_unknown_crates():

@@ -14,40 +14,51 @@ from .contracts import indentation
 from .sealed import BELOW_SEALED, SEALED
 from .tokens import Bad
 
-# Crates, and files of them, that are never exported: what they have `pub` with a premise is kept to the crate.
+# Crates that are never exported: what they have `pub` with a premise is kept to the package.
 NEVER_EXPORTED = {"slotmap_slots", "slotmap_links", "slotmap_bounded"}
 # A call of an exported crate that is for the maps alone.
 KEPT = {("slotmap_core", "KeyData", "exact")}
 # A value of such a crate may be lent to users, and its methods with it; a function has no other way out than its module.
 KEPT_METHOD, KEPT_FUNCTION = "pub(crate)", "its module is private"
 
+KEY = r"\(K\.data_of key\)"
+CURSOR = r"\(K\.data_of cursor\)"
+PRIMARY, SIDE = "slotmap_basic slotmap_dense slotmap_hop", "slotmap_secondary slotmap_sparse"
 NOT_LIVE = "the key is not live"
 NO_VALUE = "the map holds no value under the key"
-KEY = r"\(K\.data_of key\)"
 # (crates, premise, test, reason): the test is the first statement of the body, and panics with the reason.
 TESTED = [
-    ("slotmap_basic slotmap_dense slotmap_hop", rf"IsLive self\.(?:now|old)(?:\.content)? {KEY}", "self.contains_key(key)", NOT_LIVE),
-    ("slotmap_basic slotmap_dense slotmap_hop", rf"λ m key\. IsLive m(?:\.content)? {KEY}", "self.contains_key(key)", NOT_LIVE),
-    ("slotmap_secondary slotmap_sparse", rf"contains_key self\.(?:now|old)\.pairs {KEY} ≡ true", "self.contains_key(key)", NO_VALUE),
-    ("slotmap_secondary slotmap_sparse", rf"λ m key\. contains_key m\.pairs {KEY} ≡ true", "self.contains_key(key)", NO_VALUE),
-    ("slotmap_dense", r"CanReplace value_of self\.old \(map_list K\.data_of keys\)", "self.can_replace(&keys)", "a key is not live, or two keys are equal"),
-    ("slotmap_list", r"λ list cursor\. is_some \(value_of \(K\.data_of cursor\) list\.elements\) ≡ true", "self.contains(cursor)", "the cursor is not in the list"),
-    ("slotmap_lists", r"λ lists cursor\. is_some \(value_under \(K\.data_of cursor\) lists\.lists\) ≡ true", "self.contains(cursor)", "the cursor is in no list"),
-    ("slotmap_graph", r"λ graph node\. IsLive graph\.nodes \(K\.data_of node\)", "self.contains_node(node)", "the node is not in the graph"),
-    ("slotmap_scene", r"λ scene node\. has_node scene\.nodes\.live \(K\.data_of node\)", "self.contains_key(node)", "the node is not in the scene"),
-    ("slotmap_entities", rf"λ world key\. IsLive world\.entities\.content {KEY}", "self.contains_key(key)", "the entity is not in the world"),
-    ("slotmap_scheduler", r"λ s handle\. is_some \(job_of \(K\.data_of handle\) s\.waiting\) ≡ true", "self.contains(handle)", "no job waits under the handle"),
+    (PRIMARY, rf"IsLive self\.(?:now|old)(?:\.content)? {KEY}", "self.contains_key(key)", NOT_LIVE),
+    (PRIMARY, rf"λ m key\. IsLive m(?:\.content)? {KEY}", "self.contains_key(key)", NOT_LIVE),
+    (SIDE, rf"contains_key self\.(?:now|old)\.pairs {KEY} ≡ true", "self.contains_key(key)", NO_VALUE),
+    (SIDE, rf"λ m key\. contains_key m\.pairs {KEY} ≡ true", "self.contains_key(key)", NO_VALUE),
+    ("slotmap_dense", r"CanReplace value_of self\.old \(map_list K\.data_of keys\)",
+     "self.can_replace(&keys)", "a key is not live, or two keys are equal"),
+    ("slotmap_list", rf"λ list cursor\. is_some \(value_of {CURSOR} list\.elements\) ≡ true",
+     "self.contains(cursor)", "the cursor is not in the list"),
+    ("slotmap_lists", rf"λ lists cursor\. is_some \(value_under {CURSOR} lists\.lists\) ≡ true",
+     "self.contains(cursor)", "the cursor is in no list"),
+    ("slotmap_graph", r"λ graph node\. IsLive graph\.nodes \(K\.data_of node\)",
+     "self.contains_node(node)", "the node is not in the graph"),
+    ("slotmap_scene", r"λ scene node\. has_node scene\.nodes\.live \(K\.data_of node\)",
+     "self.contains_key(node)", "the node is not in the scene"),
+    ("slotmap_entities", rf"λ world key\. IsLive world\.entities\.content {KEY}",
+     "self.contains_key(key)", "the entity is not in the world"),
+    ("slotmap_scheduler", r"λ s handle\. is_some \(job_of \(K\.data_of handle\) s\.waiting\) ≡ true",
+     "self.contains(handle)", "no job waits under the handle"),
 ]
 
 RETURNS = "A closure of Rust may be called with any argument of its type: it returns, or it panics."
 ENDS = ("An iterator of Rust may be asked for the next item at any time. One that doesn't end doesn't let the call end, or fills the map; "
         "all items so far are then where the call's `ensures` has them.")
-IN_PLACE = "Only `entry` of the map makes an entry, its fields are private, and it borrows the map: so it is in its place until it is used up."
+IN_PLACE = ("Only `entry` of the map makes an entry, its fields are private, and it borrows the map: so it is in its place until it is "
+            "used up.")
 STEPS = "Only the map makes such an iterator, its fields are private, and each step leaves it so that it can make the next."
+CONTENT = r"(?:self\.old(?:\.content)?|\(content self\.old\))"
 # (premise, why no Rust program can break it)
 HELD = [
     (r"[A-Z]\.pre f(?: self\.0| \(\w+ self\))?", RETURNS),
-    (r"used (self\.old(?:\.content)?|\(content self\.old\)) < most → \(key : K\) → K\.data_of key ≡ (?:self\.old(?:\.content)?|\(content self\.old\))\.offer → F\.pre f key", RETURNS),
+    (rf"used {CONTENT} < most → \(key : K\) → K\.data_of key ≡ {CONTENT}\.offer → F\.pre f key", RETURNS),
     (r"CallableOnEach F\.FnMut K\.data_of f (?:self\.old(?:\.content)?\.live|\(content self\.old\)\.live|\(keyed [^→≡<]*\))", RETURNS),
     (r"CallableInOrder F\.FnMut K\.data_of f self\.old\.elements", RETURNS),
     (r"CallableOnJobs F\.FnMut K\.data_of f self\.old\.waiting", RETURNS),
@@ -98,43 +109,43 @@ def without_generics(text):
     return text
 
 
-def owner_of(t, item):
+def owner_of(source, item):
     """The trait and the type that a function stands in."""
     if not item.owner or item.owner.kind == "mod":
         return "", ""
     if item.owner.kind == "trait":
         return item.owner.name, ""
-    header = without_generics(item.owner.header(t)).split(" where ")[0].removeprefix("impl")
+    header = without_generics(item.owner.header(source)).split(" where ")[0].removeprefix("impl")
     trait, _, kind = header.rpartition(" for ")
     words = [re.findall(r"\w+", part) for part in (trait, re.sub(r"'\w+|\bmut\b", "", kind))]
     return tuple(found[-1] if found else "" for found in words)
 
 
-def is_reachable(t, item, types):
+def is_reachable(source, item, types):
     """Whether users may call a function."""
-    trait, kind = owner_of(t, item)
+    trait, kind = owner_of(source, item)
     if not types.is_public(trait) or not types.is_public(kind):
         return False
     return bool(trait) or item.public
 
 
-def premises_of(t, item, call):
+def premises_of(source, item, call):
     """The premises of a function: its clauses, and those of Rattle's std in the impl that it stands in."""
-    found = [Premise(t[at], call) for at in item.clauses if t[at][1].startswith("requires")]
+    found = [Premise(source[at], call) for at in item.clauses if source[at][1].startswith("requires")]
     members = item.owner.ghosts if item.owner else []
-    return found + [Premise(t[at], call) for at in members if t[at].name == f"can_{item.name}"]
+    return found + [Premise(source[at], call) for at in members if source[at].name == f"can_{item.name}"]
 
 
 def handled(file, types):
     """The premises of each function of a file that users can reach, with what becomes of them."""
-    t, calls = file.tokens, []
-    refuse_unknown_members(t, file.items)
+    source, calls = file.tokens, []
+    refuse_unknown_members(source, file.items)
     for item in file.items:
-        if item.kind != "fn" or not is_reachable(t, item, types):
+        if item.kind != "fn" or not is_reachable(source, item, types):
             continue
-        trait, kind = owner_of(t, item)
+        trait, kind = owner_of(source, item)
         call = "::".join(filter(None, [file.crate, kind or trait, item.name]))
-        premises = premises_of(t, item, call)
+        premises = premises_of(source, item, call)
         for premise in premises:
             handle(premise, file, item, trait, kind)
         if premises:
@@ -142,13 +153,13 @@ def handled(file, types):
     return calls
 
 
-def refuse_unknown_members(t, items):
+def refuse_unknown_members(source, items):
     """A ghost member that is a premise belongs to a function beside it."""
     for owner in items:
         names = {f"can_{it.name}" for it in items if it.owner is owner and it.kind == "fn"}
         for at in owner.ghosts:
-            if owner.kind == "impl" and t[at].name.startswith("can_") and t[at].name not in names:
-                raise Bad(f"{t[at].name} is no premise of a function here", t[at].line)
+            if owner.kind == "impl" and source[at].name.startswith("can_") and source[at].name not in names:
+                raise Bad(f"{source[at].name} is no premise of a function here", source[at].line)
 
 
 def handle(premise, file, item, trait, kind):
@@ -170,8 +181,21 @@ def handle(premise, file, item, trait, kind):
         premise.refuse()
 
 
+EXPORT = re.compile(rf"\bpub use [^;]*\b({'|'.join(sorted(NEVER_EXPORTED))})\b")
+
+
+def refuse_export(text, line=None):
+    """Refuses an export of what a crate has that is never exported."""
+    found = EXPORT.search(text)
+    if found:
+        raise Bad(f"{found[1]} is never exported", line)
+
+
 def guard(file, types, edits):
     """Writes the tests, and keeps calls to the crate."""
+    for item in file.items:
+        if item.kind == "use" and item.public and file.crate not in NEVER_EXPORTED:
+            refuse_export(item.header(file.tokens), file.tokens[item.start].line)
     for item, premises in handled(file, types):
         tests = dict.fromkeys(it.said for it in premises if it.way == "tested")
         margin = "\n" + indentation(file.tokens, item.whole) + "    "

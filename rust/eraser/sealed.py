@@ -19,64 +19,64 @@ LAWS = "In Rattle each impl is proved to do what the clauses here say. In Rust n
 CLOSED = "This trait is sealed: only types of this crate implement it."
 
 
-def seal(t, items, edits):
+def seal(source, items, edits):
     """Gives the traits of a library their seals, and says in their docs who may implement them."""
     for item in items:
         if item.kind == "trait" and item.public:
-            seal_trait(t, item, edits)
+            seal_trait(source, item, edits)
 
 
-def seal_trait(t, item, edits):
+def seal_trait(source, item, edits):
     """One public trait."""
     if item.name in OPEN:
-        say(t, item, f"{LAWS} {OPEN[item.name]}", edits)
+        say(source, item, f"{LAWS} {OPEN[item.name]}", edits)
         return
     if item.name in SEALED:
-        add_supertrait(t, item, edits)
-    elif BELOW_SEALED.get(item.name) not in supertraits(t, item):
-        raise Bad(f"who may implement {item.name}", t[item.start].line)
-    say(t, item, CLOSED, edits)
+        add_supertrait(source, item, edits)
+    elif BELOW_SEALED.get(item.name) not in supertraits(source, item):
+        raise Bad(f"who may implement {item.name}", source[item.start].line)
+    say(source, item, CLOSED, edits)
 
 
-def supertraits(t, item):
+def supertraits(source, item):
     """The words of a trait's header behind its name."""
-    return {word for kind, word in t[after_space(t, item.at + 1) + 1:item.header_end] if kind == "word"}
+    return {word for kind, word in source[after_space(source, item.at + 1) + 1:item.header_end] if kind == "word"}
 
 
-def say(t, item, text, edits):
+def say(source, item, text, edits):
     """Adds a paragraph to the docs of an item."""
-    if item.whole < 2 or not t[item.whole - 2][1].startswith("///"):
-        raise Bad(f"{item.name} has no docs", t[item.start].line)
+    if item.whole < 2 or not source[item.whole - 2][1].startswith("///"):
+        raise Bad(f"{item.name} has no docs", source[item.start].line)
     edits.put_before(item.whole, f"///\n/// {text}\n")
 
 
-def add_supertrait(t, item, edits):
+def add_supertrait(source, item, edits):
     """A supertrait that only this crate can name."""
-    name = after_space(t, item.at + 1)
-    seal_of = f"crate::sealed::{item.name}{arguments(t, name + 1)}"
-    colon = top_level_colon(t, name + 1, item.header_end)
+    name = after_space(source, item.at + 1)
+    seal_of = f"crate::sealed::{item.name}{arguments(source, name + 1)}"
+    colon = top_level_colon(source, name + 1, item.header_end)
     if colon is None:
-        edits.put_after(name if t[name + 1] != ("mark", "<") else angle_end(t, name + 1) - 1, f": {seal_of}")
+        edits.put_after(name if source[name + 1] != ("mark", "<") else angle_end(source, name + 1) - 1, f": {seal_of}")
     else:
         edits.put_after(colon, f" {seal_of} +")
 
 
-def angle_end(t, at):
+def angle_end(source, at):
     """The place behind the angle bracket that closes the one at `at`."""
     depth = 0
     while True:
-        depth += {"<": 1, ">": -1}.get(t[at][1], 0) if t[at][0] == "mark" else 0
+        depth += {"<": 1, ">": -1}.get(source[at][1], 0) if source[at][0] == "mark" else 0
         at += 1
         if depth == 0:
             return at
 
 
-def arguments(t, at):
+def arguments(source, at):
     """The names of a trait's parameters, in angle brackets."""
-    if t[at] != ("mark", "<"):
+    if source[at] != ("mark", "<"):
         return ""
     names, depth, is_next = [], 0, False
-    for token in t[at:angle_end(t, at)]:
+    for token in source[at:angle_end(source, at)]:
         if token[0] == "mark":
             depth += {"<": 1, ">": -1}.get(token[1], 0)
             is_next = depth == 1 and token[1] in "<,"
@@ -86,29 +86,29 @@ def arguments(t, at):
     return f"<{', '.join(names)}>"
 
 
-def top_level_colon(t, at, end):
+def top_level_colon(source, at, end):
     """The colon that a trait's supertraits follow, if it has some."""
-    if t[at] == ("mark", "<"):
-        at = angle_end(t, at)
-    at = after_space(t, at)
-    return at if at < end and t[at] == ("mark", ":") else None
+    if source[at] == ("mark", "<"):
+        at = angle_end(source, at)
+    at = after_space(source, at)
+    return at if at < end and source[at] == ("mark", ":") else None
 
 
-def seals_of_impls(t, items, edits):
+def seals_of_impls(source, items, edits):
     """For each impl of a sealed trait the impl of its seal, with the same parameters and bounds: it holds where that impl holds."""
     found = []
     for item in items:
-        place = place_of_trait(t, item) if item.kind == "impl" else None
+        place = place_of_trait(source, item) if item.kind == "impl" else None
         if place is None:
             continue
-        header = "".join("crate::sealed::" + word if at == place else word for at, word in enumerate(edits.text[item.start:item.header_end], item.start))
-        found.append(f"{header.rstrip()} {{}}\n")
+        before, after = edits.text[item.start:place], edits.text[place:item.header_end]
+        found.append(f"{''.join([*before, 'crate::sealed::', *after]).rstrip()} {{}}\n")
     return found
 
 
-def place_of_trait(t, item):
+def place_of_trait(source, item):
     """Where an impl's header names a sealed trait, if it is an impl of one."""
     at = item.at + 1
-    at = angle_end(t, at) if t[at] == ("mark", "<") else at
-    at = after_space(t, at)
-    return at if t[at][1] in SEALED else None
+    at = angle_end(source, at) if source[at] == ("mark", "<") else at
+    at = after_space(source, at)
+    return at if source[at][1] in SEALED else None

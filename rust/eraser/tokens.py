@@ -128,14 +128,14 @@ def tokens(text):
     return out
 
 
-def text_of(t):
+def text_of(source):
     """The text of tokens."""
-    return "".join(x[1] for x in t)
+    return "".join(x[1] for x in source)
 
 
-def plain(t):
+def plain(source):
     """The text of tokens without comments, clauses and ghost items, each space a single one."""
-    words = [x[1] for x in t if x[0] not in ("comment", "clause", "ghost")]
+    words = [x[1] for x in source if x[0] not in ("comment", "clause", "ghost")]
     return re.sub(r"\s+", " ", "".join(words)).strip()
 
 
@@ -144,40 +144,40 @@ def is_blank(token):
     return token[0] in ("space", "comment")
 
 
-def after_space(t, at):
+def after_space(source, at):
     """The place of the next token from `at` on that is neither a space nor a comment."""
-    while at < len(t) and is_blank(t[at]):
+    while at < len(source) and is_blank(source[at]):
         at += 1
     return at
 
 
-def before_space(t, at):
+def before_space(source, at):
     """The place of the last token before `at` that is neither a space nor a comment, or -1."""
     at -= 1
-    while at >= 0 and is_blank(t[at]):
+    while at >= 0 and is_blank(source[at]):
         at -= 1
     return at
 
 
-def matching(t, at):
+def matching(source, at):
     """The place after the bracket that closes the one at `at`."""
     depth = 0
-    for place in range(at, len(t)):
-        kind, word = t[place]
+    for place in range(at, len(source)):
+        kind, word = source[place]
         if kind == "mark":
             depth += (word in OPEN) - (word in CLOSE)
         if depth == 0:
             return place + 1
-    raise Bad("a bracket isn't closed", t[at].line)
+    raise Bad("a bracket isn't closed", source[at].line)
 
 
 class Edits:
     """Changes to a list of tokens: each place has its new text."""
 
-    def __init__(self, t):
-        self.t = t
-        self.text = [x[1] for x in t]
-        self.gone = bytearray(len(t))
+    def __init__(self, source):
+        self.source = source
+        self.text = [x[1] for x in source]
+        self.gone = bytearray(len(source))
 
     def drop(self, start, end):
         """Takes tokens out. What is out stays out."""
@@ -188,13 +188,13 @@ class Edits:
     def drop_line(self, start, end):
         """Takes tokens out, with the line break and the indentation that lead to them."""
         self.drop(start, end)
-        if start and self.t[start - 1][0] == "space":
+        if start and self.source[start - 1][0] == "space":
             kept, broken, _ = self.text[start - 1].rpartition("\n")
             self.text[start - 1] = kept if broken else ""
 
     def drop_space_after_start(self, start, end):
         """Takes the line break out that follows what began a file."""
-        if not any(self.text[:start]) and end < len(self.t) and self.t[end][0] == "space":
+        if not any(self.text[:start]) and end < len(self.source) and self.source[end][0] == "space":
             self.drop(end, end + 1)
 
     def put(self, place, text):
@@ -213,7 +213,7 @@ class Edits:
     def result(self):
         """The new text. Where something went, no line ends in a space and no two empty lines are left."""
         out, spaces = [], ""
-        for (kind, old), new in zip(self.t, self.text):
+        for (kind, old), new in zip(self.source, self.text):
             if kind == "space" or not new:
                 spaces += new
                 continue
