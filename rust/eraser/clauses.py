@@ -9,7 +9,7 @@ TOP = os.path.dirname(os.path.dirname(os.path.dirname(os.path.abspath(__file__))
 sys.dont_write_bytecode = True
 sys.path.insert(0, os.path.join(TOP, "docs"))
 
-from sources import CONTRACTS, items_of, read_items  # docs/sources.py
+from sources import CONTRACTS, Item, items_of, read_items, set_subject  # docs/sources.py
 
 from . import word_page
 
@@ -69,11 +69,47 @@ def section_of(crate, path, name, clauses):
     return section(item.path, parts_of(item)[1]) if item else None
 
 
+def public_types(crate):
+    return {it.name for it in word_page.public_items(crate) if it.kind in ("struct", "enum")}
+
+
+def trait_of(impl):
+    return re.sub(r"<.*", "", impl.of_trait).split("::")[-1]
+
+
+def subject(header):
+    """What the header of an impl or of a public trait is of: its trait and its type."""
+    if header.startswith("pub trait "): return re.match(r"pub trait (\w+)", header)[1], ""
+    item = Item("", 0, "impl", "", False)
+    item.lines = [header]
+    set_subject(item)
+    return trait_of(item), item.of
+
+
+@functools.cache
+def contracts_of(crate, path):
+    """The sections of the public traits of a file and of the impls of traits for public types, by what they are of, in their order."""
+    found = {}
+    if crate not in word_page.SHOWN: return found
+    name = f"crates/{crate}/src/{path}.rt"
+    with open(os.path.join(TOP, name), encoding="utf-8") as file:
+        lines = file.read().split("\n")
+    for item in read_items(name, lines, 0, len(lines), 0):
+        if item.kind == "trait" and item.public:
+            ghosts = [it for it in item.members if it.kind == "ghost" and it.name != "use"]
+            code = [line for it in ghosts for line in [*(f"    // {said}" for said in it.doc), *it.lines, ""]][:-1]
+            if code: found[item.name, ""] = [section(name, code, "What each impl of this crate is proved to give and to keep:")]
+        elif item.kind == "impl" and item.of_trait and trait_of(item) not in ("Model", "Drop") and item.of in public_types(crate):
+            code = contract_of(item)
+            found.setdefault((trait_of(item), item.of), []).append(section(name, code, "What this impl is proved to give:") if code else [])
+    return found
+
+
 def arms():
     """For each call of the five maps: its crate, its type, its name, and its section, with the proved call's header."""
     found = {}
     for crate in MAPS:
-        public = {it.name for it in word_page.public_items(crate) if it.kind in ("struct", "enum")}
+        public = public_types(crate)
         impls = [it for it in items_of(crate) if it.kind == "impl" and it.of in public]
         plain = re.compile(r"(\w+::)*(" + "|".join(NOT_CALLS) + r")\b")
         # What a type itself has comes before what it has by a trait, and a value before a reference to it.

@@ -64,8 +64,9 @@ def entry_of(word, spec):
 
 @functools.cache
 def words_in(path, text):
-    """The words of these clauses of a file: each with the file that defines it."""
+    """The words of these clauses of a file: each with the file that defines it. A clause's own name is no word."""
     found = {}
+    text = re.sub(r"\b(ensures|requires)(\*?) \w+ \{", r"\1\2 {", text)
     item = type("Clauses", (), {"path": path})
     note_words(found, item, [re.sub(r"//.*", "", text)], fields_below(path.split("/")[1]))
     return sorted(found, key=lambda it: (it[0].lower(), it))

@@ -3878,7 +3878,7 @@ where
     ensures room { map.len (sparse_entry_map self.entry).pairs < (sparse_entry_map self.entry).capacity → IsOk result }
 ```
 
-Words: [`capacity`](crate::words#capacity-of-slotmap_sparse-content), [`entry_lends_ok`](crate::words#entry_lends_ok), [`IsSparseInPlace`](crate::words#issparseinplace), [`pairs`](crate::words#pairs-of-slotmap_sparse-content), [`room`](crate::words#room-of-slotmap_sparse-content), [`sparse_entry_map`](crate::words#sparse_entry_map), [`sparse_entry_value`](crate::words#sparse_entry_value).
+Words: [`capacity`](crate::words#capacity-of-slotmap_sparse-content), [`entry_lends_ok`](crate::words#entry_lends_ok), [`IsSparseInPlace`](crate::words#issparseinplace), [`pairs`](crate::words#pairs-of-slotmap_sparse-content), [`sparse_entry_map`](crate::words#sparse_entry_map), [`sparse_entry_value`](crate::words#sparse_entry_value).
 "## };
     (slotmap_sparse Entry or_insert) => { r##"
 # Proved
@@ -3894,7 +3894,7 @@ pub fn or_insert(self, value: V) -> Result<&'a mut V, PutError<V>>
     ensures room { map.len (sparse_entry_map self.entry).pairs < (sparse_entry_map self.entry).capacity → IsOk result }
 ```
 
-Words: [`capacity`](crate::words#capacity-of-slotmap_sparse-content), [`entry_lends_ok`](crate::words#entry_lends_ok), [`IsSparseInPlace`](crate::words#issparseinplace), [`pairs`](crate::words#pairs-of-slotmap_sparse-content), [`room`](crate::words#room-of-slotmap_sparse-content), [`sparse_entry_map`](crate::words#sparse_entry_map), [`sparse_entry_value`](crate::words#sparse_entry_value).
+Words: [`capacity`](crate::words#capacity-of-slotmap_sparse-content), [`entry_lends_ok`](crate::words#entry_lends_ok), [`IsSparseInPlace`](crate::words#issparseinplace), [`pairs`](crate::words#pairs-of-slotmap_sparse-content), [`sparse_entry_map`](crate::words#sparse_entry_map), [`sparse_entry_value`](crate::words#sparse_entry_value).
 "## };
     (slotmap_sparse Entry or_insert_with) => { r##"
 # Proved
@@ -3913,7 +3913,7 @@ where
     ensures room { map.len (sparse_entry_map self.entry).pairs < (sparse_entry_map self.entry).capacity → IsOk result }
 ```
 
-Words: [`capacity`](crate::words#capacity-of-slotmap_sparse-content), [`entry_lends_ok`](crate::words#entry_lends_ok), [`IsSparseInPlace`](crate::words#issparseinplace), [`pairs`](crate::words#pairs-of-slotmap_sparse-content), [`room`](crate::words#room-of-slotmap_sparse-content), [`sparse_entry_map`](crate::words#sparse_entry_map), [`sparse_entry_value`](crate::words#sparse_entry_value).
+Words: [`capacity`](crate::words#capacity-of-slotmap_sparse-content), [`entry_lends_ok`](crate::words#entry_lends_ok), [`IsSparseInPlace`](crate::words#issparseinplace), [`pairs`](crate::words#pairs-of-slotmap_sparse-content), [`sparse_entry_map`](crate::words#sparse_entry_map), [`sparse_entry_value`](crate::words#sparse_entry_value).
 "## };
     (slotmap_sparse IntoIter len) => { r##"
 # Proved
@@ -4823,7 +4823,7 @@ pub fn insert(self, value: V) -> Result<&'a mut V, PutError<V>>
     ensures room { map.len (sparse_entry_map (Vacant self.entry)).pairs < (sparse_entry_map (Vacant self.entry)).capacity → IsOk result }
 ```
 
-Words: [`capacity`](crate::words#capacity-of-slotmap_sparse-content), [`entry_lends_ok`](crate::words#entry_lends_ok), [`IsSparseInPlace`](crate::words#issparseinplace), [`pairs`](crate::words#pairs-of-slotmap_sparse-content), [`room`](crate::words#room-of-slotmap_sparse-content), [`sparse_entry_map`](crate::words#sparse_entry_map).
+Words: [`capacity`](crate::words#capacity-of-slotmap_sparse-content), [`entry_lends_ok`](crate::words#entry_lends_ok), [`IsSparseInPlace`](crate::words#issparseinplace), [`pairs`](crate::words#pairs-of-slotmap_sparse-content), [`sparse_entry_map`](crate::words#sparse_entry_map).
 "## };
     (slotmap_sparse VacantEntry key) => { r##"
 # Proved

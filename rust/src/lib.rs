@@ -58,7 +58,7 @@ mod proved;
 #[cfg(feature = "internals")]
 #[doc(hidden)]
 #[allow(warnings)]
-#[deny(rustdoc::broken_intra_doc_links, rustdoc::private_intra_doc_links)]
+#[deny(rustdoc::broken_intra_doc_links)]
 pub mod proved;
 #[cfg(not(feature = "internals"))]
 mod rt;

@@ -278,6 +278,17 @@ impl<K: Key, V> SlotMap<K, V> {
     }
 }
 
+/// # Proved
+///
+/// What this impl is proved to give:
+///
+/// ```text
+/// ghost can_index = { λ m key. IsLive m (K.data_of key) };
+///
+/// ghost index_gives = { λ m key value. map.get m.live (K.data_of key) ≡ Some value };
+/// ```
+///
+/// Words: [`IsLive`](crate::words#islive), [`live`](crate::words#live).
 impl<K: Key, V> Index<K> for SlotMap<K, V> {
     type Output = V;
 

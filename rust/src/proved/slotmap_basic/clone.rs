@@ -92,6 +92,15 @@ impl<K: Key, V: Clone> SlotMap<K, V> {
     }
 }
 
+/// # Proved
+///
+/// What this impl is proved to give:
+///
+/// ```text
+/// ghost is_clone = { λ m copy. IsCloneBy V.is_clone m copy × IsContent true copy };
+/// ```
+///
+/// Words: [`IsCloneBy`](crate::words#iscloneby), [`IsContent`](crate::words#iscontent).
 impl<K: Key, V: Clone> Clone for SlotMap<K, V> {
     #[inline]
     fn clone(&self) -> Result<Self, AllocError> {

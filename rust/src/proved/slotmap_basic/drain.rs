@@ -29,6 +29,19 @@ impl<'a, K: Key, V> Drop for Drain<'a, K, V> {
     }
 }
 
+/// # Proved
+///
+/// What this impl is proved to give:
+///
+/// ```text
+/// ghost can_next = { DrainCanStep };
+///
+/// ghost next_gives = { DrainSteps K.data_of };
+///
+/// ghost remaining = { drain_count drain_live };
+/// ```
+///
+/// Words: [`drain_count`](crate::words#drain_count-of-slotmap_core-draining), [`drain_live`](crate::words#drain_live), [`DrainCanStep`](crate::words#draincanstep), [`DrainSteps`](crate::words#drainsteps-of-slotmap_basic-drain).
 impl<'a, K: Key, V> Iterator for Drain<'a, K, V> {
     type Item = (K, V);
 

@@ -58,6 +58,15 @@ impl<'a, K, V> Iter<'a, K, V> {
     }
 }
 
+/// # Proved
+///
+/// What this impl is proved to give:
+///
+/// ```text
+/// ghost is_clone = { λ it copy. copy ≡ it };
+///
+/// ghost is_infallible = { λ _. ⊤ };
+/// ```
 impl<'a, K, V> Clone for Iter<'a, K, V> {
     #[inline]
     fn clone(&self) -> Result<Self, AllocError> {
@@ -71,6 +80,15 @@ impl<'a, K, V> Clone for Iter<'a, K, V> {
     }
 }
 
+/// # Proved
+///
+/// What this impl is proved to give:
+///
+/// ```text
+/// ghost next_gives = { YieldsFirstBy (λ item. (K.data_of item.0, item.1.now)) (λ rest. rest) };
+///
+/// ghost remaining = { item_count (λ rest. rest) };
+/// ```
 impl<'a, K: Key, V> Iterator for Iter<'a, K, V> {
     type Item = (K, &'a V);
 
@@ -146,6 +164,15 @@ impl<'a, K, V> Keys<'a, K, V> {
     }
 }
 
+/// # Proved
+///
+/// What this impl is proved to give:
+///
+/// ```text
+/// ghost is_clone = { λ it copy. copy ≡ it };
+///
+/// ghost is_infallible = { λ _. ⊤ };
+/// ```
 impl<'a, K, V> Clone for Keys<'a, K, V> {
     #[inline]
     fn clone(&self) -> Result<Self, AllocError> {
@@ -155,6 +182,15 @@ impl<'a, K, V> Clone for Keys<'a, K, V> {
     }
 }
 
+/// # Proved
+///
+/// What this impl is proved to give:
+///
+/// ```text
+/// ghost next_gives = { YieldsFirstBy K.data_of (λ rest. rest) };
+///
+/// ghost remaining = { item_count (λ rest. rest) };
+/// ```
 impl<'a, K: Key, V> Iterator for Keys<'a, K, V> {
     type Item = K;
 
@@ -228,6 +264,15 @@ impl<'a, K, V> Values<'a, K, V> {
     }
 }
 
+/// # Proved
+///
+/// What this impl is proved to give:
+///
+/// ```text
+/// ghost is_clone = { λ it copy. copy ≡ it };
+///
+/// ghost is_infallible = { λ _. ⊤ };
+/// ```
 impl<'a, K, V> Clone for Values<'a, K, V> {
     #[inline]
     fn clone(&self) -> Result<Self, AllocError> {
@@ -237,6 +282,15 @@ impl<'a, K, V> Clone for Values<'a, K, V> {
     }
 }
 
+/// # Proved
+///
+/// What this impl is proved to give:
+///
+/// ```text
+/// ghost next_gives = { YieldsFirstBy (λ item. item.now) (λ rest. rest) };
+///
+/// ghost remaining = { item_count (λ rest. rest) };
+/// ```
 impl<'a, K: Key, V> Iterator for Values<'a, K, V> {
     type Item = &'a V;
 
@@ -387,6 +441,15 @@ impl<K: Key, V> SlotMap<K, V> {
     }
 }
 
+/// # Proved
+///
+/// What this impl is proved to give:
+///
+/// ```text
+/// ghost into_iter_gives = { λ m it. ListsByIndex m.now.live it };
+/// ```
+///
+/// Words: [`ListsByIndex`](crate::words#listsbyindex), [`live`](crate::words#live).
 impl<'a, K: Key, V> IntoIterator for &'a SlotMap<K, V> {
     type Item = (K, &'a V);
 

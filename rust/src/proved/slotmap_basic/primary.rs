@@ -12,6 +12,17 @@ use crate::proved::slotmap_core::keys::Key;
 use crate::proved::slotmap_core::primary::{Detaching, Primary};
 use crate::rt::std::alloc::Global;
 
+/// # Proved
+///
+/// What this impl is proved to give:
+///
+/// ```text
+/// ghost REUSES = { true };
+///
+/// ghost STACKED = { true };
+///
+/// ghost content = { λ m. m };
+/// ```
 impl<K: Key, V> Primary<K, V> for SlotMap<K, V> {
     const REUSES: bool = true;
 

@@ -346,6 +346,13 @@ impl From<AllocError> for OutOfMemory {
     }
 }
 
+/// # Proved
+///
+/// What this impl is proved to give:
+///
+/// ```text
+/// ghost from_gives = { λ _ error. error ≡ reserve.Memory };
+/// ```
 impl From<AllocError> for ReserveError {
     #[inline]
     fn from(_error: AllocError) -> ReserveError {
@@ -360,6 +367,13 @@ impl<T> From<AllocFailed<T>> for OutOfMemory {
     }
 }
 
+/// # Proved
+///
+/// What this impl is proved to give:
+///
+/// ```text
+/// ghost from_gives = { λ _ error. error ≡ SlotsMemory };
+/// ```
 impl From<AllocError> for SlotsError {
     #[inline]
     fn from(_error: AllocError) -> SlotsError {
@@ -367,6 +381,13 @@ impl From<AllocError> for SlotsError {
     }
 }
 
+/// # Proved
+///
+/// What this impl is proved to give:
+///
+/// ```text
+/// ghost from_gives = { λ _ error. error ≡ SlotsMemory };
+/// ```
 impl<T> From<AllocFailed<T>> for SlotsError {
     #[inline]
     fn from(_error: AllocFailed<T>) -> SlotsError {
@@ -374,6 +395,13 @@ impl<T> From<AllocFailed<T>> for SlotsError {
     }
 }
 
+/// # Proved
+///
+/// What this impl is proved to give:
+///
+/// ```text
+/// ghost from_gives = { λ _ error. error ≡ JsonMemory };
+/// ```
 impl From<AllocError> for JsonError {
     #[inline]
     fn from(_error: AllocError) -> JsonError {
@@ -381,6 +409,13 @@ impl From<AllocError> for JsonError {
     }
 }
 
+/// # Proved
+///
+/// What this impl is proved to give:
+///
+/// ```text
+/// ghost from_gives = { λ _ error. error ≡ JsonMemory };
+/// ```
 impl<T> From<AllocFailed<T>> for JsonError {
     #[inline]
     fn from(_error: AllocFailed<T>) -> JsonError {

@@ -266,6 +266,15 @@ pub fn is_older_version(a: u32, b: u32) -> bool {
 // Comparisons are written out. Derived ones would compare the fields that `inverse` gives, which are the
 // same for version 0, which no key has, and version 1.
 
+/// # Proved
+///
+/// What this impl is proved to give:
+///
+/// ```text
+/// ghost eq = { λ a b. nat_eq a.index b.index && nat_eq a.version b.version };
+/// ```
+///
+/// Words: [`index`](crate::words#index), [`version`](crate::words#version).
 impl PartialEq for KeyData {
     #[inline]
     fn eq(&self, other: &KeyData) -> bool {
@@ -291,6 +300,15 @@ impl Ord for KeyData {
     }
 }
 
+/// # Proved
+///
+/// What this impl is proved to give:
+///
+/// ```text
+/// ghost is_default = { λ k. k ≡ null_key };
+/// ```
+///
+/// Words: [`null_key`](crate::words#null_key).
 impl Default for KeyData {
     #[inline]
     fn default() -> KeyData {
@@ -301,6 +319,15 @@ impl Default for KeyData {
     }
 }
 
+/// # Proved
+///
+/// What this impl is proved to give:
+///
+/// ```text
+/// ghost hash_input = { hashed };
+/// ```
+///
+/// Words: [`hashed`](crate::words#hashed).
 impl Hash for KeyData {
     #[inline]
     fn hash<H: Hasher>(&self, state: &mut H) {
@@ -344,11 +371,37 @@ impl fmt::Debug for KeyData {
 /// ```
 ///
 /// In Rattle each impl is proved to do what the clauses here say. In Rust nothing checks that. An impl that answers otherwise from call to call, or whose `Eq`, `Ord` and `Hash` don't follow `data`, spoils the maps that it is a key of: a call may then return another value than the one under a key, or panic. It breaks no other map.
+///
+/// # Proved
+///
+/// What each impl of this crate is proved to give and to keep:
+///
+/// ```text
+/// // The data of a key.
+/// ghost data_of: { Self → Key };
+///
+/// // The key of some data.
+/// ghost of_data: { Key → Self };
+///
+/// ghost from_data: { (d : Key) → IsKey d → data_of (of_data d) ≡ d };
+///
+/// ghost from_data_of: { (k : Self) → IsKey (data_of k) → of_data (data_of k) ≡ k };
+///
+/// ghost from_gives_key: { (d : Key) (k : Self) → Self.from_gives d k → k ≡ of_data d };
+///
+/// ghost clone_same: { (a b : Self) → Self.is_clone a b → a ≡ b };
+///
+/// ghost default_null: { (k : Self) → Self.is_default k → data_of k ≡ null_key };
+///
+/// ghost eq_by_data: { (a b : Self) → IsTrue (Self.eq a b) ↔ data_of a ≡ data_of b };
+///
+/// ghost cmp_by_data: { (a b : Self) → Self.cmp a b ≡ key_cmp (data_of a) (data_of b) };
+///
+/// ghost hash_by_data: { (k : Self) → Self.hash_input k ≡ hashed (data_of k) };
+/// ```
+///
+/// Words: [`hashed`](crate::words#hashed), [`IsKey`](crate::words#iskey), [`Key`](crate::words#key), [`key_cmp`](crate::words#key_cmp), [`null_key`](crate::words#null_key).
 pub trait Key: From<KeyData> + Copy + Default + Eq + Ord + Hash + fmt::Debug {
-    /// The data of a key.
-
-    /// The key of some data.
-
     /// Returns the null key, which is in no map.
     ///
     /// It is the default, too. Constant time.
@@ -437,6 +490,13 @@ pub trait Key: From<KeyData> + Copy + Default + Eq + Ord + Hash + fmt::Debug {
 #[derive(Clone, Copy, PartialEq, Eq, PartialOrd, Ord, Hash, Debug)]
 pub struct DefaultKey(KeyData);
 
+/// # Proved
+///
+/// What this impl is proved to give:
+///
+/// ```text
+/// ghost from_gives = { λ d k. k ≡ d };
+/// ```
 impl From<KeyData> for DefaultKey {
     #[inline]
     fn from(data: KeyData) -> DefaultKey {
@@ -444,6 +504,15 @@ impl From<KeyData> for DefaultKey {
     }
 }
 
+/// # Proved
+///
+/// What this impl is proved to give:
+///
+/// ```text
+/// ghost is_default = { λ k. k ≡ null_key };
+/// ```
+///
+/// Words: [`null_key`](crate::words#null_key).
 impl Default for DefaultKey {
     #[inline]
     fn default() -> DefaultKey {
@@ -451,6 +520,15 @@ impl Default for DefaultKey {
     }
 }
 
+/// # Proved
+///
+/// What this impl is proved to give:
+///
+/// ```text
+/// ghost data_of = { λ k. k };
+///
+/// ghost of_data = { λ d. d };
+/// ```
 impl Key for DefaultKey {
     #[inline]
     fn null() -> DefaultKey {

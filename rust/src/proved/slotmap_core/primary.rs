@@ -39,6 +39,22 @@ use crate::rt::std::alloc::Global;
 /// ```
 ///
 /// In Rattle each impl is proved to do what the clauses here say. In Rust nothing checks that. An impl that does otherwise spoils the runs and searches that are given it.
+///
+/// # Proved
+///
+/// What each impl of this crate is proved to give and to keep:
+///
+/// ```text
+/// ghost REUSES: { Bool };
+///
+/// // Whether the map reuses the slot freed last first; its content then has a stack.
+/// ghost STACKED: { Bool };
+///
+/// // What the map holds now.
+/// ghost content: { Self → Content V };
+/// ```
+///
+/// Words: [`Content`](crate::words#content-of-slotmap_core-content).
 pub trait Primary<K: Key, V>: Sized {
     /// Whether memory can't run out for an insert into a vacant slot and a reattach of a detached
     /// key.
@@ -652,6 +668,14 @@ pub trait Primary<K: Key, V>: Sized {
 /// ```
 ///
 /// In Rattle each impl is proved to do what the clauses here say. In Rust nothing checks that. An impl that does otherwise spoils the runs that are given it.
+///
+/// # Proved
+///
+/// What each impl of this crate is proved to give and to keep:
+///
+/// ```text
+/// ghost last_freed_first: { Self.STACKED ≡ true };
+/// ```
 pub trait Detaching<K: Key, V>: Primary<K, V> {
     /// Takes out the value of a live key and keeps its slot, or returns `None` if the key isn't
     /// live.

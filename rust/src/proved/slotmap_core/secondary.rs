@@ -82,6 +82,17 @@ pub enum NoEntry {
 /// ```
 ///
 /// In Rattle each impl is proved to do what the clauses here say. In Rust nothing checks that. An impl that does otherwise spoils the runs and searches that are given it.
+///
+/// # Proved
+///
+/// What each impl of this crate is proved to give and to keep:
+///
+/// ```text
+/// // What the map holds now.
+/// ghost pairs: { Self → Pairs V };
+/// ```
+///
+/// Words: [`Pairs`](crate::words#pairs-of-slotmap_core-secondary).
 pub trait Secondary<K: Key, V> {
     // What the map holds now.
 

@@ -407,6 +407,17 @@ impl<K: Key, V> DenseSlotMap<K, V> {
     }
 }
 
+/// # Proved
+///
+/// What this impl is proved to give:
+///
+/// ```text
+/// ghost can_index = { λ m key. IsLive m.content (K.data_of key) };
+///
+/// ghost index_gives = { λ m key value. map.get m.content.live (K.data_of key) ≡ Some value };
+/// ```
+///
+/// Words: [`content`](crate::words#content-of-slotmap_dense-dense), [`IsLive`](crate::words#islive), [`live`](crate::words#live).
 impl<K: Key, V> Index<K> for DenseSlotMap<K, V> {
     type Output = V;
 

@@ -107,6 +107,15 @@ impl<K: Key, V: Clone> DenseSlotMap<K, V> {
     }
 }
 
+/// # Proved
+///
+/// What this impl is proved to give:
+///
+/// ```text
+/// ghost is_clone = { λ m copy. IsCloneBy V.is_clone m.content copy.content × ClonesInOrder V.is_clone m copy × IsDense copy };
+/// ```
+///
+/// Words: [`ClonesInOrder`](crate::words#clonesinorder), [`content`](crate::words#content-of-slotmap_dense-dense), [`IsCloneBy`](crate::words#iscloneby), [`IsDense`](crate::words#isdense).
 impl<K: Key, V: Clone> Clone for DenseSlotMap<K, V> {
     #[inline]
     fn clone(&self) -> Result<Self, AllocError> {

@@ -25,6 +25,17 @@ impl<'a, K: Key, V> Drop for Drain<'a, K, V> {
     }
 }
 
+/// # Proved
+///
+/// What this impl is proved to give:
+///
+/// ```text
+/// ghost next_gives = { DenseDrainSteps K.data_of };
+///
+/// ghost remaining = { drain_count dense_drain_live };
+/// ```
+///
+/// Words: [`dense_drain_live`](crate::words#dense_drain_live), [`DenseDrainSteps`](crate::words#densedrainsteps), [`drain_count`](crate::words#drain_count-of-slotmap_core-draining).
 impl<'a, K: Key, V> Iterator for Drain<'a, K, V> {
     type Item = (K, V);
 

@@ -112,6 +112,15 @@ impl<K: Key, V: Clone> IntoIter<K, V> {
     }
 }
 
+/// # Proved
+///
+/// What this impl is proved to give:
+///
+/// ```text
+/// ghost is_clone = { λ it copy. AreClones V.is_clone it copy };
+/// ```
+///
+/// Words: [`AreClones`](crate::words#areclones).
 impl<K: Key, V: Clone> Clone for IntoIter<K, V> {
     #[inline]
     fn clone(&self) -> Result<Self, AllocError> {
@@ -119,6 +128,15 @@ impl<K: Key, V: Clone> Clone for IntoIter<K, V> {
     }
 }
 
+/// # Proved
+///
+/// What this impl is proved to give:
+///
+/// ```text
+/// ghost next_gives = { YieldsFirstBy (λ item. (K.data_of item.0, item.1)) (λ rest. rest) };
+///
+/// ghost remaining = { item_count (λ rest. rest) };
+/// ```
 impl<K: Key, V> Iterator for IntoIter<K, V> {
     type Item = (K, V);
 
@@ -159,6 +177,15 @@ impl<K: Key, V> fmt::Debug for IntoIter<K, V> {
     }
 }
 
+/// # Proved
+///
+/// What this impl is proved to give:
+///
+/// ```text
+/// ghost into_iter_gives = { λ m it. ListsPairs m it };
+/// ```
+///
+/// Words: [`ListsPairs`](crate::words#listspairs).
 impl<K: Key, V> IntoIterator for DenseSlotMap<K, V> {
     type Item = (K, V);
 

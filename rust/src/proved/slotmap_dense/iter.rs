@@ -52,6 +52,15 @@ impl<'a, K: Key, V> Iter<'a, K, V> {
     }
 }
 
+/// # Proved
+///
+/// What this impl is proved to give:
+///
+/// ```text
+/// ghost is_clone = { λ it copy. copy ≡ it };
+///
+/// ghost is_infallible = { λ _. ⊤ };
+/// ```
 impl<'a, K: Key, V> Clone for Iter<'a, K, V> {
     #[inline]
     fn clone(&self) -> Result<Self, AllocError> {
@@ -63,6 +72,15 @@ impl<'a, K: Key, V> Clone for Iter<'a, K, V> {
     }
 }
 
+/// # Proved
+///
+/// What this impl is proved to give:
+///
+/// ```text
+/// ghost next_gives = { YieldsFirstBy (λ item. (K.data_of item.0, item.1.now)) (λ rest. rest) };
+///
+/// ghost remaining = { item_count (λ rest. rest) };
+/// ```
 impl<'a, K: Key, V> Iterator for Iter<'a, K, V> {
     type Item = (K, &'a V);
 
@@ -140,6 +158,15 @@ impl<'a, K: Key, V> Keys<'a, K, V> {
     }
 }
 
+/// # Proved
+///
+/// What this impl is proved to give:
+///
+/// ```text
+/// ghost is_clone = { λ it copy. copy ≡ it };
+///
+/// ghost is_infallible = { λ _. ⊤ };
+/// ```
 impl<'a, K: Key, V> Clone for Keys<'a, K, V> {
     #[inline]
     fn clone(&self) -> Result<Self, AllocError> {
@@ -149,6 +176,15 @@ impl<'a, K: Key, V> Clone for Keys<'a, K, V> {
     }
 }
 
+/// # Proved
+///
+/// What this impl is proved to give:
+///
+/// ```text
+/// ghost next_gives = { YieldsFirstBy K.data_of (λ rest. rest) };
+///
+/// ghost remaining = { item_count (λ rest. rest) };
+/// ```
 impl<'a, K: Key, V> Iterator for Keys<'a, K, V> {
     type Item = K;
 
@@ -222,6 +258,15 @@ impl<'a, K: Key, V> Values<'a, K, V> {
     }
 }
 
+/// # Proved
+///
+/// What this impl is proved to give:
+///
+/// ```text
+/// ghost is_clone = { λ it copy. copy ≡ it };
+///
+/// ghost is_infallible = { λ _. ⊤ };
+/// ```
 impl<'a, K: Key, V> Clone for Values<'a, K, V> {
     #[inline]
     fn clone(&self) -> Result<Self, AllocError> {
@@ -231,6 +276,15 @@ impl<'a, K: Key, V> Clone for Values<'a, K, V> {
     }
 }
 
+/// # Proved
+///
+/// What this impl is proved to give:
+///
+/// ```text
+/// ghost next_gives = { YieldsFirstBy (λ item. item.now) (λ rest. rest) };
+///
+/// ghost remaining = { item_count (λ rest. rest) };
+/// ```
 impl<'a, K: Key, V> Iterator for Values<'a, K, V> {
     type Item = &'a V;
 
@@ -373,6 +427,15 @@ impl<K: Key, V> DenseSlotMap<K, V> {
     }
 }
 
+/// # Proved
+///
+/// What this impl is proved to give:
+///
+/// ```text
+/// ghost into_iter_gives = { λ m it. ListsPairs m.now it };
+/// ```
+///
+/// Words: [`ListsPairs`](crate::words#listspairs).
 impl<'a, K: Key, V> IntoIterator for &'a DenseSlotMap<K, V> {
     type Item = (K, &'a V);
 

@@ -19,6 +19,19 @@ pub struct IterMut<'a, K, V> {
     values: slice::IterMut<'a, V>,
 }
 
+/// # Proved
+///
+/// What this impl is proved to give:
+///
+/// ```text
+/// ghost can_next = { IterMutCanStep };
+///
+/// ghost next_gives = { iter_mut_steps K.data_of };
+///
+/// ghost remaining = { λ s. at_most (length (iter_mut_rest K.data_of s)) };
+/// ```
+///
+/// Words: [`iter_mut_rest`](crate::words#iter_mut_rest), [`iter_mut_steps`](crate::words#iter_mut_steps), [`IterMutCanStep`](crate::words#itermutcanstep).
 impl<'a, K: Key, V> Iterator for IterMut<'a, K, V> {
     type Item = (K, &'a mut V);
 
@@ -93,6 +106,17 @@ pub struct ValuesMut<'a, K, V> {
     keys: PhantomData<K>,
 }
 
+/// # Proved
+///
+/// What this impl is proved to give:
+///
+/// ```text
+/// ghost next_gives = { values_mut_steps };
+///
+/// ghost remaining = { λ s. at_most (length (values_mut_rest s)) };
+/// ```
+///
+/// Words: [`values_mut_rest`](crate::words#values_mut_rest), [`values_mut_steps`](crate::words#values_mut_steps).
 impl<'a, K, V> Iterator for ValuesMut<'a, K, V> {
     type Item = &'a mut V;
 
@@ -242,6 +266,15 @@ impl<K: Key, V> DenseSlotMap<K, V> {
     }
 }
 
+/// # Proved
+///
+/// What this impl is proved to give:
+///
+/// ```text
+/// ghost into_iter_gives = { λ m it. StartsIterMut K.data_of m.now it };
+/// ```
+///
+/// Words: [`StartsIterMut`](crate::words#startsitermut).
 impl<'a, K: Key, V> IntoIterator for &'a mut DenseSlotMap<K, V> {
     type Item = (K, &'a mut V);
 

@@ -12,6 +12,19 @@ use crate::proved::slotmap_core::keys::Key;
 use crate::proved::slotmap_core::primary::{Detaching, Primary};
 use crate::rt::std::alloc::Global;
 
+/// # Proved
+///
+/// What this impl is proved to give:
+///
+/// ```text
+/// ghost REUSES = { false };
+///
+/// ghost STACKED = { true };
+///
+/// ghost content = { λ m. m.content };
+/// ```
+///
+/// Words: [`content`](crate::words#content-of-slotmap_dense-dense).
 impl<K: Key, V> Primary<K, V> for DenseSlotMap<K, V> {
     const REUSES: bool = false;
 

@@ -11,6 +11,15 @@ use crate::rt::std::alloc::AllocError;
 /// A table whose components can be cloned.
 ///
 /// This trait is sealed: only types of this crate implement it.
+///
+/// # Proved
+///
+/// What each impl of this crate is proved to give and to keep:
+///
+/// ```text
+/// // What a clone of a component may be.
+/// ghost is_clone: { Self.Component → Self.Component → Type 0 };
+/// ```
 pub trait CloneTable<K: Key>: Table<K> {
     // What a clone of a component may be.
 
@@ -59,6 +68,23 @@ impl<K: Key, C: Clone> CloneTable<K> for SparseSecondaryMap<K, C> {
 /// Tables whose components can be cloned.
 ///
 /// This trait is sealed: only types of this crate implement it.
+///
+/// # Proved
+///
+/// What each impl of this crate is proved to give and to keep:
+///
+/// ```text
+/// // What a copy of the tables may be.
+/// ghost are_clones: { Self → Self → Type 0 };
+///
+/// // That a clone of a component equals the component.
+/// ghost clones_equal: { Type 0 };
+///
+/// // Where clones equal their components, each entity has the same in a copy.
+/// ghost same_parts: { (t u : Self) (k : KeyOf) → clones_equal → are_clones t u → Self.Tables.parts u k ≡ Self.Tables.parts t k };
+/// ```
+///
+/// Words: [`Key`](crate::words#key).
 pub trait CloneTables<K: Key>: Tables<K> {
     // What a copy of the tables may be.
 
@@ -129,6 +155,23 @@ impl<K: Key, A: CloneTable<K>, B: CloneTables<K>> CloneTables<K> for (A, B) {
 /// ```
 ///
 /// This trait is sealed: only types of this crate implement it.
+///
+/// # Proved
+///
+/// What each impl of this crate is proved to give and to keep:
+///
+/// ```text
+/// // What a clone of a component may be.
+/// ghost is_clone: { Self.Table.Component → Self.Table.Component → Type 0 };
+///
+/// // Where clones equal their components, they do in this kind.
+/// ghost own_equal: { T.clones_equal → ClonesEqual is_clone };
+///
+/// // In a copy of the tables the table of this kind has the same entities, each with a clone of its component.
+/// ghost own_clones: { (t u : T) → T.are_clones t u → HasClones is_clone (Self.Table.pairs (Self.Kind.table t)) (Self.Table.pairs (Self.Kind.table u)) };
+/// ```
+///
+/// Words: [`ClonesEqual`](crate::words#clonesequal), [`HasClones`](crate::words#hasclones), [`pairs`](crate::words#pairs-of-slotmap_secondary-content).
 pub trait CloneKind<K: Key, T: CloneTables<K>>: Kind<K, T> {
     // What a clone of a component may be.
 
@@ -137,6 +180,13 @@ pub trait CloneKind<K: Key, T: CloneTables<K>>: Kind<K, T> {
     // In a copy of the tables the table of this kind has the same entities, each with a clone of its component.
 }
 
+/// # Proved
+///
+/// What this impl is proved to give:
+///
+/// ```text
+/// ghost is_clone = { A.is_clone };
+/// ```
 impl<K: Key, A: CloneTable<K>, B: CloneTables<K>> CloneKind<K, (A, B)> for First {
 }
 
@@ -192,6 +242,16 @@ impl<K: Key, E: Clone, T: CloneTables<K>> World<K, E, T> {
     }
 }
 
+/// # Proved
+///
+/// What this impl is proved to give:
+///
+/// ```text
+/// ghost is_clone = { λ world copy. IsCloneBy E.is_clone world.entities.content copy.entities.content
+///     × ClonesInOrder E.is_clone world.entities copy.entities × T.are_clones world.tables copy.tables };
+/// ```
+///
+/// Words: [`ClonesInOrder`](crate::words#clonesinorder), [`content`](crate::words#content-of-slotmap_dense-dense), [`entities`](crate::words#entities), [`IsCloneBy`](crate::words#iscloneby), [`tables`](crate::words#tables).
 impl<K: Key, E: Clone, T: CloneTables<K>> Clone for World<K, E, T> {
     #[inline]
     fn clone(&self) -> Result<Self, AllocError> {

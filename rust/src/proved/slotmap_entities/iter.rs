@@ -135,6 +135,15 @@ impl<K: Key, E, T: Tables<K>> World<K, E, T> {
     }
 }
 
+/// # Proved
+///
+/// What this impl is proved to give:
+///
+/// ```text
+/// ghost into_iter_gives = { λ world it. ListsPairs world.now.entities it };
+/// ```
+///
+/// Words: [`entities`](crate::words#entities), [`ListsPairs`](crate::words#listspairs).
 impl<'a, K: Key, E, T: Tables<K>> IntoIterator for &'a World<K, E, T> {
     type Item = (K, &'a E);
 

@@ -18,6 +18,15 @@ pub struct With<'a, K: Key, E, M: Table<K>> {
     table: &'a M,
 }
 
+/// # Proved
+///
+/// What this impl is proved to give:
+///
+/// ```text
+/// ghost next_gives = { YieldsFirstBy (λ item. (K.data_of item.0, item.1.now)) (λ rest. rest) };
+///
+/// ghost remaining = { item_count (λ rest. rest) };
+/// ```
 impl<'a, K: Key, E, M: Table<K>> Iterator for With<'a, K, E, M>
 where
     M::Component: 'a,
@@ -55,6 +64,15 @@ pub struct WithBoth<'a, K: Key, E, A: Table<K>, B: Table<K>> {
     second: &'a B,
 }
 
+/// # Proved
+///
+/// What this impl is proved to give:
+///
+/// ```text
+/// ghost next_gives = { YieldsFirstBy (λ item. (K.data_of item.0, (item.1.now, item.2.now))) (λ rest. rest) };
+///
+/// ghost remaining = { item_count (λ rest. rest) };
+/// ```
 impl<'a, K: Key, E, A: Table<K>, B: Table<K>> Iterator for WithBoth<'a, K, E, A, B>
 where
     A::Component: 'a,

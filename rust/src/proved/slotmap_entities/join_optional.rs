@@ -20,6 +20,15 @@ pub struct WithOptional<'a, K: Key, E, A: Table<K>, B: Table<K>> {
     optional: &'a B,
 }
 
+/// # Proved
+///
+/// What this impl is proved to give:
+///
+/// ```text
+/// ghost next_gives = { YieldsFirstBy (λ item. (K.data_of item.0, (item.1.now, option_copied item.2))) (λ rest. rest) };
+///
+/// ghost remaining = { item_count (λ rest. rest) };
+/// ```
 impl<'a, K: Key, E, A: Table<K>, B: Table<K>> Iterator for WithOptional<'a, K, E, A, B>
 where
     A::Component: 'a,

@@ -20,6 +20,15 @@ pub struct WithThree<'a, K: Key, E, A: Table<K>, B: Table<K>, C: Table<K>> {
     third: &'a C,
 }
 
+/// # Proved
+///
+/// What this impl is proved to give:
+///
+/// ```text
+/// ghost next_gives = { YieldsFirstBy (λ item. (K.data_of item.0, (item.1.now, (item.2.now, item.3.now)))) (λ rest. rest) };
+///
+/// ghost remaining = { item_count (λ rest. rest) };
+/// ```
 impl<'a, K: Key, E, A: Table<K>, B: Table<K>, C: Table<K>> Iterator
     for WithThree<'a, K, E, A, B, C>
 where

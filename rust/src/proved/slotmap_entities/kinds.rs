@@ -12,6 +12,48 @@ use crate::rt::std::marker::PhantomData;
 /// One kind of components: it names one of the tables `T`.
 ///
 /// This trait is sealed: only types of this crate implement it.
+///
+/// # Proved
+///
+/// What each impl of this crate is proved to give and to keep:
+///
+/// ```text
+/// // Its table, and the tables with another one in its place.
+/// ghost table: { T → Self.Table };
+///
+/// ghost with_table: { T → Self.Table → T };
+///
+/// // Its table is what was put there; the one that is there changes nothing.
+/// ghost table_put: { (t : T) (m : Self.Table) → table (with_table t m) ≡ m };
+///
+/// ghost same_put: { (t : T) → with_table t (table t) ≡ t };
+///
+/// // Of two that are put there, one after the other, the second stays.
+/// ghost put_twice: { (t : T) (m n : Self.Table) → with_table (with_table t m) n ≡ with_table t n };
+///
+/// // What an entity has in its table it has, and that is all that a new table changes.
+/// ghost has_own: { (t : T) (k : KeyOf) → contains_key (Self.Table.pairs (table t)) k ≡ true → T.has t k ≡ true };
+///
+/// ghost has_no_more: { (t : T) (m : Self.Table) (k : KeyOf) → T.has (with_table t m) k ≡ true
+///     → (T.has t k ≡ true) ⊎ (contains_key (Self.Table.pairs m) k ≡ true) };
+///
+/// // A new table changes what an entity has in the tables only where it has something else there.
+/// ghost others_kept: { (t : T) (m : Self.Table) (k : KeyOf) → get (Self.Table.pairs m) k ≡ get (Self.Table.pairs (table t)) k
+///     → (T.has (with_table t m) k ≡ T.has t k) × (T.parts (with_table t m) k ≡ T.parts t k) };
+///
+/// // What an entity has in its table is part of what it has in the tables.
+/// ghost own_part: { (t u : T) (k : KeyOf) → T.parts u k ≡ T.parts t k
+///     → get (Self.Table.pairs (table u)) k ≡ get (Self.Table.pairs (table t)) k };
+///
+/// // Where no table has less room than before, its own hasn't.
+/// ghost own_room: { (t u : T) → T.keeps_room t u → (i count : ℕ) → Self.Table.fits (table t) i count → Self.Table.fits (table u) i count };
+///
+/// // Where each table has room again for what it had, its own has.
+/// ghost own_back: { (t u : T) → T.gives_back t u
+///     → (i count : ℕ) → Self.Table.fits (table t) i count → Self.Table.fits (table u) i (map.len (Self.Table.pairs (table t)) + count) };
+/// ```
+///
+/// Words: [`contains_key`](crate::words#contains_key), [`get`](crate::words#get), [`Key`](crate::words#key), [`pairs`](crate::words#pairs-of-slotmap_secondary-content).
 pub trait Kind<K: Key, T: Tables<K>>: crate::sealed::Kind<K, T> {
     /// The type of its table.
     type Table: Table<K>;
@@ -103,6 +145,21 @@ pub trait Kind<K: Key, T: Tables<K>>: crate::sealed::Kind<K, T> {
 /// ```
 ///
 /// This trait is sealed: only types of this crate implement it.
+///
+/// # Proved
+///
+/// What each impl of this crate is proved to give and to keep:
+///
+/// ```text
+/// // A new table of one kind leaves that of the other as it is.
+/// ghost first_kept: { (t : T) (n : B.Table) → Self.Kind.table (B.with_table t n) ≡ Self.Kind.table t };
+///
+/// ghost second_kept: { (t : T) (m : Self.Table) → B.table (Self.Kind.with_table t m) ≡ B.table t };
+///
+/// // The two may be put there in any order.
+/// ghost any_order: { (t : T) (m : Self.Table) (n : B.Table)
+///     → Self.Kind.with_table (B.with_table t n) m ≡ B.with_table (Self.Kind.with_table t m) n };
+/// ```
 pub trait Apart<K: Key, T: Tables<K>, B: Kind<K, T>>: Kind<K, T> {
     // A new table of one kind leaves that of the other as it is.
 

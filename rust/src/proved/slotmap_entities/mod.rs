@@ -593,6 +593,18 @@ impl<K: Key, E, T: Tables<K>> World<K, E, T> {
 }
 
 /// `world[key]` is the value of an entity. The caller proves that the entity exists.
+///
+/// # Proved
+///
+/// What this impl is proved to give:
+///
+/// ```text
+/// ghost can_index = { λ world key. IsLive world.entities.content (K.data_of key) };
+///
+/// ghost index_gives = { λ world key value. map.get world.entities.content.live (K.data_of key) ≡ Some value };
+/// ```
+///
+/// Words: [`content`](crate::words#content-of-slotmap_dense-dense), [`entities`](crate::words#entities), [`IsLive`](crate::words#islive), [`live`](crate::words#live).
 impl<K: Key, E, T: Tables<K>> Index<K> for World<K, E, T> {
     type Output = E;
 

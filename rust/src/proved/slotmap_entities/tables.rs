@@ -12,6 +12,46 @@ use crate::rt::std::alloc::Global;
 /// The first suits a kind that most entities have, the other a rare one.
 ///
 /// This trait is sealed: only types of this crate implement it.
+///
+/// # Proved
+///
+/// What each impl of this crate is proved to give and to keep:
+///
+/// ```text
+/// // The components, by their entities.
+/// ghost pairs: { Self → Pairs Self.Component };
+///
+/// // The table once the entity has another component.
+/// ghost with_value: { Self → KeyOf → Self.Component → Self };
+///
+/// // That so many more components fit, of entities whose index is at most the first number: inserting
+/// // them can't fail.
+/// ghost fits: { Self → ℕ → ℕ → Type 0 };
+///
+/// // Why a `reserve` for so many more components, of entities whose index is at most the first number,
+/// // fails with this error.
+/// ghost refuses_room: { Self → ℕ → ℕ → WhyNoRoom → Type 0 };
+///
+/// // That a table has as much memory as before, where a clause tells it: the capacity of a `SecondaryMap`
+/// // stays. Of a `SparseSecondaryMap` it says nothing.
+/// ghost keeps_capacity: { Self → Self → Type 0 };
+///
+/// ghost with_value_is: { (m : Self) (k : KeyOf) (v : Self.Component) → pairs (with_value m k v) ≡ bind (pairs m) k v };
+///
+/// // Where some fit, fewer do, and of lower indices.
+/// ghost fewer_fit: { (m : Self) (i j n p : ℕ) → i ≤ j → n ≤ p → fits m j p → fits m i n };
+///
+/// // Where some fit, they do once a component that is there has another value.
+/// ghost with_value_room: { (m : Self) (k : KeyOf) (v : Self.Component) (i n : ℕ) → contains_key (pairs m) k ≡ true → fits m i n → fits (with_value m k v) i n };
+///
+/// // And no more of them do.
+/// ghost with_value_no_more: { (m : Self) (k : KeyOf) (v : Self.Component) (i n : ℕ) → contains_key (pairs m) k ≡ true → fits (with_value m k v) i n → fits m i n };
+///
+/// // Components of as many entities as a world can have aren't too many.
+/// ghost within_limit: { (m : Self) (i n : ℕ) → i ≤ most → map.len (pairs m) + n ≤ most → refuses_room m i n TooGreat → ⊥ };
+/// ```
+///
+/// Words: [`bind`](crate::words#bind), [`contains_key`](crate::words#contains_key), [`Key`](crate::words#key), [`most`](crate::words#most), [`Pairs`](crate::words#pairs-of-slotmap_core-secondary).
 pub trait Table<K: Key>: crate::sealed::Table<K> + Sized {
     /// The type of the components.
     type Component: Sized;

@@ -63,6 +63,34 @@ use crate::rt::std::alloc::Global;
 /// ```
 ///
 /// This trait is sealed: only types of this crate implement it.
+///
+/// # Proved
+///
+/// What each impl of this crate is proved to give and to keep:
+///
+/// ```text
+/// // Whether an entity has a component in one of the tables.
+/// ghost has: { Self → KeyOf → Bool };
+///
+/// // What it has in each of them, and what one without components has.
+/// ghost parts: { Self → KeyOf → Self.Parts };
+///
+/// ghost no_parts: { Self.Parts };
+///
+/// // That no table has less room than before.
+/// ghost keeps_room: { Self → Self → Type 0 };
+///
+/// // That each table has room again for what it had, beside the room that it had.
+/// ghost gives_back: { Self → Self → Type 0 };
+///
+/// // An entity without components has nothing in each of them.
+/// ghost has_none: { (t : Self) (k : KeyOf) → has t k ≡ false → parts t k ≡ no_parts };
+///
+/// // Where nothing changes, no table has less room.
+/// ghost same_room: { (t : Self) → keeps_room t t };
+/// ```
+///
+/// Words: [`Key`](crate::words#key).
 pub trait Tables<K: Key>: crate::sealed::Tables<K> + Sized {
     /// What an entity has in the tables: for each an `Option`, in the same pairs.
     type Parts: Sized;

@@ -305,7 +305,7 @@ impl<K: Key, N, E> Graph<K, N, E> {
     /// ensures stale { IfNone result (self.new ≡ self.old) }
     /// ```
     ///
-    /// Words: [`avoids`](crate::words#avoids), [`edges`](crate::words#edges-of-slotmap_graph-parts), [`edges_at`](crate::words#edges_at), [`into`](crate::words#into), [`IsSpent`](crate::words#isspent), [`KeepsSpent`](crate::words#keepsspent), [`Key`](crate::words#key), [`Leaves`](crate::words#leaves), [`links`](crate::words#links-of-slotmap_graph-parts), [`live`](crate::words#live), [`nodes`](crate::words#nodes-of-slotmap_graph-parts), [`out`](crate::words#out), [`Removes`](crate::words#removes), [`SeenEdge`](crate::words#seenedge), [`space`](crate::words#space), [`touches`](crate::words#touches), [`value`](crate::words#value-of-slotmap_graph-parts).
+    /// Words: [`avoids`](crate::words#avoids), [`edges`](crate::words#edges-of-slotmap_graph-parts), [`edges_at`](crate::words#edges_at), [`into`](crate::words#into), [`IsSpent`](crate::words#isspent), [`KeepsSpent`](crate::words#keepsspent), [`Key`](crate::words#key), [`Leaves`](crate::words#leaves), [`links`](crate::words#links-of-slotmap_graph-parts), [`live`](crate::words#live), [`nodes`](crate::words#nodes-of-slotmap_graph-parts), [`out`](crate::words#out), [`Removes`](crate::words#removes), [`SeenEdge`](crate::words#seenedge), [`space`](crate::words#space), [`touches`](crate::words#touches).
     #[inline]
     pub fn remove_node(&mut self, node: K) -> Option<N> {
         // by the contract of `node_count`, each edge joins two nodes that exist

@@ -8,6 +8,15 @@ use crate::proved::slotmap_graph::{Edge, Graph};
 use crate::proved::slotmap::Key;
 use crate::rt::std::alloc::AllocError;
 
+/// # Proved
+///
+/// What this impl is proved to give:
+///
+/// ```text
+/// ghost is_clone = { clones_edge E.is_clone };
+/// ```
+///
+/// Words: [`clones_edge`](crate::words#clones_edge).
 impl<E: Clone> Clone for Edge<E> {
     #[inline]
     fn clone(&self) -> Result<Self, AllocError> {
@@ -72,6 +81,16 @@ impl<K: Key, N: Clone, E: Clone> Graph<K, N, E> {
     }
 }
 
+/// # Proved
+///
+/// What this impl is proved to give:
+///
+/// ```text
+/// ghost is_clone = { λ graph copy. IsCloneBy N.is_clone graph.nodes copy.nodes × IsCloneBy (clones_edge E.is_clone) graph.edges copy.edges
+///     × SameEdges graph.out copy.out × SameEdges graph.into copy.into };
+/// ```
+///
+/// Words: [`clones_edge`](crate::words#clones_edge), [`edges`](crate::words#edges-of-slotmap_graph-parts), [`into`](crate::words#into), [`IsCloneBy`](crate::words#iscloneby), [`nodes`](crate::words#nodes-of-slotmap_graph-parts), [`out`](crate::words#out), [`SameEdges`](crate::words#sameedges).
 impl<K: Key, N: Clone, E: Clone> Clone for Graph<K, N, E> {
     #[inline]
     fn clone(&self) -> Result<Self, AllocError> {

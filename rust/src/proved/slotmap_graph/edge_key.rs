@@ -24,6 +24,13 @@ use crate::proved::slotmap::{Key, KeyData};
 #[derive(Clone, Copy, PartialEq, Eq, PartialOrd, Ord, Hash, Debug)]
 pub struct EdgeKey(KeyData);
 
+/// # Proved
+///
+/// What this impl is proved to give:
+///
+/// ```text
+/// ghost from_gives = { λ d k. k ≡ d };
+/// ```
 impl From<KeyData> for EdgeKey {
     #[inline]
     fn from(data: KeyData) -> EdgeKey {
@@ -31,6 +38,15 @@ impl From<KeyData> for EdgeKey {
     }
 }
 
+/// # Proved
+///
+/// What this impl is proved to give:
+///
+/// ```text
+/// ghost is_default = { λ k. k ≡ null_key };
+/// ```
+///
+/// Words: [`null_key`](crate::words#null_key).
 impl Default for EdgeKey {
     #[inline]
     fn default() -> EdgeKey {
@@ -38,6 +54,15 @@ impl Default for EdgeKey {
     }
 }
 
+/// # Proved
+///
+/// What this impl is proved to give:
+///
+/// ```text
+/// ghost data_of = { λ k. k };
+///
+/// ghost of_data = { λ d. d };
+/// ```
 impl Key for EdgeKey {
     #[inline]
     fn null() -> EdgeKey {

@@ -9,6 +9,18 @@ use crate::proved::slotmap::Key;
 use crate::rt::std::ops::Index;
 
 /// `graph[node]` is the value of a node. The caller proves that the node exists.
+///
+/// # Proved
+///
+/// What this impl is proved to give:
+///
+/// ```text
+/// ghost can_index = { λ graph node. IsLive graph.nodes (K.data_of node) };
+///
+/// ghost index_gives = { λ graph node value. map.get graph.nodes.live (K.data_of node) ≡ Some value };
+/// ```
+///
+/// Words: [`IsLive`](crate::words#islive), [`live`](crate::words#live), [`nodes`](crate::words#nodes-of-slotmap_graph-parts).
 impl<K: Key, N, E> Index<K> for Graph<K, N, E> {
     type Output = N;
 

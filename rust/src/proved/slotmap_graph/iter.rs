@@ -25,6 +25,15 @@ pub struct EdgesAt<'a, E> {
     pub(in crate::proved::slotmap_graph) members: Members<'a>,
 }
 
+/// # Proved
+///
+/// What this impl is proved to give:
+///
+/// ```text
+/// ghost next_gives = { YieldsFirstBy (λ item. item) (λ rest. rest) };
+///
+/// ghost remaining = { item_count (λ rest. rest) };
+/// ```
 impl<'a, E> Iterator for EdgesAt<'a, E> {
     type Item = EdgeKey;
 
@@ -58,6 +67,15 @@ impl<'a, E> ExactSizeIterator for EdgesAt<'a, E> {
 
 impl<'a, E> FusedIterator for EdgesAt<'a, E> {}
 
+/// # Proved
+///
+/// What this impl is proved to give:
+///
+/// ```text
+/// ghost is_clone = { λ it copy. copy ≡ it };
+///
+/// ghost is_infallible = { λ _. ⊤ };
+/// ```
 impl<'a, E> Clone for EdgesAt<'a, E> {
     #[inline]
     fn clone(&self) -> Result<Self, AllocError> {

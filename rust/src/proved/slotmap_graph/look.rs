@@ -63,7 +63,7 @@ impl<K: Key, N, E> Graph<K, N, E> {
     /// ensures value { option_copied_mut result ≡ map.get self.old.nodes.live (K.data_of node) }
     /// ```
     ///
-    /// Words: [`lends_node`](crate::words#lends_node), [`live`](crate::words#live), [`nodes`](crate::words#nodes-of-slotmap_graph-parts), [`value`](crate::words#value-of-slotmap_graph-parts).
+    /// Words: [`lends_node`](crate::words#lends_node), [`live`](crate::words#live), [`nodes`](crate::words#nodes-of-slotmap_graph-parts).
     #[inline]
     pub fn node_mut(&mut self, node: K) -> Option<&mut N> {
         match self.nodes.get_mut(node) {

@@ -25,6 +25,15 @@ pub struct Neighbours<'a, K, E> {
     key_type: PhantomData<K>,
 }
 
+/// # Proved
+///
+/// What this impl is proved to give:
+///
+/// ```text
+/// ghost next_gives = { YieldsFirstBy K.data_of (λ rest. rest) };
+///
+/// ghost remaining = { item_count (λ rest. rest) };
+/// ```
 impl<'a, K: Key, E> Iterator for Neighbours<'a, K, E> {
     type Item = K;
 

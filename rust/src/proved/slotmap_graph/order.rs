@@ -63,6 +63,13 @@ impl OrderError {
     }
 }
 
+/// # Proved
+///
+/// What this impl is proved to give:
+///
+/// ```text
+/// ghost from_gives = { λ _ error. error ≡ order.Memory };
+/// ```
 impl From<AllocError> for OrderError {
     #[inline]
     fn from(_error: AllocError) -> OrderError {

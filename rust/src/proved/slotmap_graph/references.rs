@@ -22,6 +22,15 @@ pub struct EdgeReferences<'a, K, E> {
     key_type: PhantomData<K>,
 }
 
+/// # Proved
+///
+/// What this impl is proved to give:
+///
+/// ```text
+/// ghost next_gives = { YieldsFirstBy (λ item. (item.0, record { from = K.data_of item.1; to = K.data_of item.2; value = item.3.now })) (λ rest. rest) };
+///
+/// ghost remaining = { item_count (λ rest. rest) };
+/// ```
 impl<'a, K: Key, E> Iterator for EdgeReferences<'a, K, E> {
     type Item = (EdgeKey, K, K, &'a E);
 
@@ -62,6 +71,15 @@ pub struct EdgeReferencesAt<'a, K, E> {
     key_type: PhantomData<K>,
 }
 
+/// # Proved
+///
+/// What this impl is proved to give:
+///
+/// ```text
+/// ghost next_gives = { YieldsFirstBy (λ item. (item.0, record { from = K.data_of item.1; to = K.data_of item.2; value = item.3.now })) (λ rest. rest) };
+///
+/// ghost remaining = { item_count (λ rest. rest) };
+/// ```
 impl<'a, K: Key, E> Iterator for EdgeReferencesAt<'a, K, E> {
     type Item = (EdgeKey, K, K, &'a E);
 

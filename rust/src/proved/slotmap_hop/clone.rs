@@ -135,6 +135,16 @@ impl<K: Key, V: Clone> HopSlotMap<K, V> {
 
 /// Calls the method `clone`. It is for code that is generic over `Clone`, such as the derived `Clone`
 /// of a struct.
+///
+/// # Proved
+///
+/// What this impl is proved to give:
+///
+/// ```text
+/// ghost is_clone = { λ m copy. IsCloneBy V.is_clone m.content copy.content × (copy.blocks ≡ m.blocks) × IsHopContent copy };
+/// ```
+///
+/// Words: [`blocks`](crate::words#blocks-of-slotmap_hop-hopcontent), [`content`](crate::words#content-of-slotmap_hop-hopcontent), [`IsCloneBy`](crate::words#iscloneby), [`IsHopContent`](crate::words#ishopcontent).
 impl<K: Key, V: Clone> Clone for HopSlotMap<K, V> {
     #[inline]
     fn clone(&self) -> Result<Self, AllocError> {

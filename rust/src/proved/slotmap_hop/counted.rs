@@ -92,6 +92,15 @@ impl<'a, V> CountedSlots<'a, V> {
 
 // Here, since no other file may copy the place of an iteration: who reads through a copy leaves the count
 // of the original as it is.
+/// # Proved
+///
+/// What this impl is proved to give:
+///
+/// ```text
+/// ghost is_clone = { λ it copy. copy ≡ it };
+///
+/// ghost is_infallible = { λ _. ⊤ };
+/// ```
 impl<'a, K, V> Clone for Iter<'a, K, V> {
     #[inline]
     fn clone(&self) -> Result<Self, AllocError> {

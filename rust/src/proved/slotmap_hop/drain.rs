@@ -29,6 +29,19 @@ impl<'a, K: Key, V> Drop for Drain<'a, K, V> {
     }
 }
 
+/// # Proved
+///
+/// What this impl is proved to give:
+///
+/// ```text
+/// ghost can_next = { HopDrainCanStep K.data_of };
+///
+/// ghost next_gives = { HopDrainSteps K.data_of };
+///
+/// ghost remaining = { drain_count hop_drain_live };
+/// ```
+///
+/// Words: [`drain_count`](crate::words#drain_count-of-slotmap_core-draining), [`hop_drain_live`](crate::words#hop_drain_live), [`HopDrainCanStep`](crate::words#hopdraincanstep), [`HopDrainSteps`](crate::words#hopdrainsteps).
 impl<'a, K: Key, V> Iterator for Drain<'a, K, V> {
     type Item = (K, V);
 

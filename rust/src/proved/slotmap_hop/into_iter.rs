@@ -122,6 +122,16 @@ impl<K, V: Clone> IntoIter<K, V> {
 }
 
 /// Calls the method `clone`. It is for code that is generic over `Clone`.
+///
+/// # Proved
+///
+/// What this impl is proved to give:
+///
+/// ```text
+/// ghost is_clone = { λ it copy. AreClones V.is_clone it copy };
+/// ```
+///
+/// Words: [`AreClones`](crate::words#areclones).
 impl<K, V: Clone> Clone for IntoIter<K, V> {
     #[inline]
     fn clone(&self) -> Result<Self, AllocError> {
@@ -129,6 +139,15 @@ impl<K, V: Clone> Clone for IntoIter<K, V> {
     }
 }
 
+/// # Proved
+///
+/// What this impl is proved to give:
+///
+/// ```text
+/// ghost next_gives = { YieldsFirstBy (λ item. (K.data_of item.0, item.1)) (λ rest. rest) };
+///
+/// ghost remaining = { item_count (λ rest. rest) };
+/// ```
 impl<K: Key, V> Iterator for IntoIter<K, V> {
     type Item = (K, V);
 
@@ -170,6 +189,15 @@ impl<K, V> fmt::Debug for IntoIter<K, V> {
     }
 }
 
+/// # Proved
+///
+/// What this impl is proved to give:
+///
+/// ```text
+/// ghost into_iter_gives = { λ m it. ListsByIndex m.content.live it };
+/// ```
+///
+/// Words: [`content`](crate::words#content-of-slotmap_hop-hopcontent), [`ListsByIndex`](crate::words#listsbyindex), [`live`](crate::words#live).
 impl<K: Key, V> IntoIterator for HopSlotMap<K, V> {
     type Item = (K, V);
 

@@ -145,6 +145,17 @@ impl<'a, K: Key, V> Iter<'a, K, V> {
     }
 }
 
+/// # Proved
+///
+/// What this impl is proved to give:
+///
+/// ```text
+/// ghost next_gives = { λ old given new. YieldsFirstBy (λ item. (K.data_of item.0, item.1.now)) (λ it. it.rest) old given new × CountsReads (λ item. K.data_of item.0) old given new };
+///
+/// ghost remaining = { item_count (λ it. it.rest) };
+/// ```
+///
+/// Words: [`CountsReads`](crate::words#countsreads), [`rest`](crate::words#rest).
 impl<'a, K: Key, V> Iterator for Iter<'a, K, V> {
     type Item = (K, &'a V);
 
@@ -255,6 +266,15 @@ impl<'a, K, V> Keys<'a, K, V> {
     }
 }
 
+/// # Proved
+///
+/// What this impl is proved to give:
+///
+/// ```text
+/// ghost is_clone = { λ it copy. copy ≡ it };
+///
+/// ghost is_infallible = { λ _. ⊤ };
+/// ```
 impl<'a, K, V> Clone for Keys<'a, K, V> {
     #[inline]
     fn clone(&self) -> Result<Self, AllocError> {
@@ -264,6 +284,17 @@ impl<'a, K, V> Clone for Keys<'a, K, V> {
     }
 }
 
+/// # Proved
+///
+/// What this impl is proved to give:
+///
+/// ```text
+/// ghost next_gives = { λ old given new. YieldsFirstBy K.data_of (λ it. it.rest) old given new × CountsReads K.data_of old given new };
+///
+/// ghost remaining = { item_count (λ it. it.rest) };
+/// ```
+///
+/// Words: [`CountsReads`](crate::words#countsreads), [`rest`](crate::words#rest).
 impl<'a, K: Key, V> Iterator for Keys<'a, K, V> {
     type Item = K;
 
@@ -369,6 +400,15 @@ impl<'a, K, V> Values<'a, K, V> {
     }
 }
 
+/// # Proved
+///
+/// What this impl is proved to give:
+///
+/// ```text
+/// ghost is_clone = { λ it copy. copy ≡ it };
+///
+/// ghost is_infallible = { λ _. ⊤ };
+/// ```
 impl<'a, K, V> Clone for Values<'a, K, V> {
     #[inline]
     fn clone(&self) -> Result<Self, AllocError> {
@@ -378,6 +418,17 @@ impl<'a, K, V> Clone for Values<'a, K, V> {
     }
 }
 
+/// # Proved
+///
+/// What this impl is proved to give:
+///
+/// ```text
+/// ghost next_gives = { λ old given new. YieldsFirstBy (λ item. item.now) (λ it. it.rest) old given new × CountsReadsSomewhere old given new };
+///
+/// ghost remaining = { item_count (λ it. it.rest) };
+/// ```
+///
+/// Words: [`CountsReadsSomewhere`](crate::words#countsreadssomewhere), [`rest`](crate::words#rest).
 impl<'a, K: Key, V> Iterator for Values<'a, K, V> {
     type Item = &'a V;
 
@@ -529,6 +580,15 @@ impl<K: Key, V> HopSlotMap<K, V> {
     }
 }
 
+/// # Proved
+///
+/// What this impl is proved to give:
+///
+/// ```text
+/// ghost into_iter_gives = { λ m it. StartsIter m.now it };
+/// ```
+///
+/// Words: [`StartsIter`](crate::words#startsiter).
 impl<'a, K: Key, V> IntoIterator for &'a HopSlotMap<K, V> {
     type Item = (K, &'a V);
 

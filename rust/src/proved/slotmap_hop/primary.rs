@@ -12,6 +12,19 @@ use crate::proved::slotmap_core::keys::Key;
 use crate::proved::slotmap_core::primary::Primary;
 use crate::rt::std::alloc::Global;
 
+/// # Proved
+///
+/// What this impl is proved to give:
+///
+/// ```text
+/// ghost REUSES = { true };
+///
+/// ghost STACKED = { false };
+///
+/// ghost content = { λ m. m.content };
+/// ```
+///
+/// Words: [`content`](crate::words#content-of-slotmap_hop-hopcontent).
 impl<K: Key, V> Primary<K, V> for HopSlotMap<K, V> {
     const REUSES: bool = true;
 

@@ -49,6 +49,15 @@ impl<K: Key, T: Clone> StableList<K, T> {
     }
 }
 
+/// # Proved
+///
+/// What this impl is proved to give:
+///
+/// ```text
+/// ghost is_clone = { λ list copy. AreClones T.is_clone list.elements copy.elements × IsCopy list.cursors copy.cursors };
+/// ```
+///
+/// Words: [`AreClones`](crate::words#areclones), [`cursors`](crate::words#cursors-of-slotmap_list-sequence), [`elements`](crate::words#elements), [`IsCopy`](crate::words#iscopy).
 impl<K: Key, T: Clone> Clone for StableList<K, T> {
     #[inline]
     fn clone(&self) -> Result<Self, AllocError> {

@@ -12,6 +12,13 @@ use crate::proved::slotmap::{Key, KeyData};
 #[derive(Clone, Copy, PartialEq, Eq, PartialOrd, Ord, Hash, Debug)]
 pub struct Cursor(KeyData);
 
+/// # Proved
+///
+/// What this impl is proved to give:
+///
+/// ```text
+/// ghost from_gives = { λ d k. k ≡ d };
+/// ```
 impl From<KeyData> for Cursor {
     #[inline]
     fn from(data: KeyData) -> Cursor {
@@ -19,6 +26,15 @@ impl From<KeyData> for Cursor {
     }
 }
 
+/// # Proved
+///
+/// What this impl is proved to give:
+///
+/// ```text
+/// ghost is_default = { λ k. k ≡ null_key };
+/// ```
+///
+/// Words: [`null_key`](crate::words#null_key).
 impl Default for Cursor {
     #[inline]
     fn default() -> Cursor {
@@ -26,6 +42,15 @@ impl Default for Cursor {
     }
 }
 
+/// # Proved
+///
+/// What this impl is proved to give:
+///
+/// ```text
+/// ghost data_of = { λ k. k };
+///
+/// ghost of_data = { λ d. d };
+/// ```
 impl Key for Cursor {
     #[inline]
     fn null() -> Cursor {

@@ -23,6 +23,17 @@ impl<'a, K: Key, T> Drop for Drain<'a, K, T> {
     }
 }
 
+/// # Proved
+///
+/// What this impl is proved to give:
+///
+/// ```text
+/// ghost next_gives = { DrainSteps K.data_of };
+///
+/// ghost remaining = { drain_count };
+/// ```
+///
+/// Words: [`drain_count`](crate::words#drain_count-of-slotmap_list-drain), [`DrainSteps`](crate::words#drainsteps-of-slotmap_list-drain).
 impl<'a, K: Key, T> Iterator for Drain<'a, K, T> {
     type Item = (K, T);
 

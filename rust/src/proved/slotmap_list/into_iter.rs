@@ -33,6 +33,15 @@ pub struct IntoIter<K, T> {
     pub(in crate::proved::slotmap_list) list: StableList<K, T>,
 }
 
+/// # Proved
+///
+/// What this impl is proved to give:
+///
+/// ```text
+/// ghost next_gives = { YieldsFirstBy (λ item. (K.data_of item.0, item.1)) (λ rest. rest) };
+///
+/// ghost remaining = { item_count (λ rest. rest) };
+/// ```
 impl<K: Key, T> Iterator for IntoIter<K, T> {
     type Item = (K, T);
 
@@ -64,6 +73,15 @@ impl<K: Key, T> ExactSizeIterator for IntoIter<K, T> {
 
 impl<K: Key, T> FusedIterator for IntoIter<K, T> {}
 
+/// # Proved
+///
+/// What this impl is proved to give:
+///
+/// ```text
+/// ghost into_iter_gives = { λ list it. (it ≡ list.elements) × IsOnce it };
+/// ```
+///
+/// Words: [`elements`](crate::words#elements), [`IsOnce`](crate::words#isonce-of-slotmap_list-sequence).
 impl<K: Key, T> IntoIterator for StableList<K, T> {
     type Item = (K, T);
 

@@ -19,6 +19,15 @@ pub struct Iter<'a, K, T> {
     pub(super) indices: Members<'a>,
 }
 
+/// # Proved
+///
+/// What this impl is proved to give:
+///
+/// ```text
+/// ghost next_gives = { YieldsFirstBy (λ item. (K.data_of item.0, item.1.now)) (λ rest. rest) };
+///
+/// ghost remaining = { item_count (λ rest. rest) };
+/// ```
 impl<'a, K: Key, T> Iterator for Iter<'a, K, T> {
     type Item = (K, &'a T);
 
@@ -54,6 +63,15 @@ impl<'a, K: Key, T> ExactSizeIterator for Iter<'a, K, T> {
 
 impl<'a, K: Key, T> FusedIterator for Iter<'a, K, T> {}
 
+/// # Proved
+///
+/// What this impl is proved to give:
+///
+/// ```text
+/// ghost into_iter_gives = { λ list it. (it ≡ list.now.elements) × IsOnce it };
+/// ```
+///
+/// Words: [`elements`](crate::words#elements), [`IsOnce`](crate::words#isonce-of-slotmap_list-sequence).
 impl<'a, K: Key, T> IntoIterator for &'a StableList<K, T> {
     type Item = (K, &'a T);
 

@@ -572,6 +572,18 @@ impl<K: Key, T> StableList<K, T> {
 }
 
 /// `list[cursor]` is the value of a cursor. The caller proves that it is in the list.
+///
+/// # Proved
+///
+/// What this impl is proved to give:
+///
+/// ```text
+/// ghost can_index = { λ list cursor. is_some (value_of (K.data_of cursor) list.elements) ≡ true };
+///
+/// ghost index_gives = { λ list cursor value. value_of (K.data_of cursor) list.elements ≡ Some value };
+/// ```
+///
+/// Words: [`elements`](crate::words#elements), [`value_of`](crate::words#value_of-of-slotmap_list-sequence).
 impl<K: Key, T> Index<K> for StableList<K, T> {
     type Output = T;
 

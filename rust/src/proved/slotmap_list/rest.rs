@@ -21,6 +21,15 @@ pub struct IterFrom<'a, K, T> {
     most: usize,
 }
 
+/// # Proved
+///
+/// What this impl is proved to give:
+///
+/// ```text
+/// ghost next_gives = { YieldsFirstBy (λ item. (K.data_of item.0, item.1.now)) (λ rest. rest) };
+///
+/// ghost remaining = { item_count (λ rest. rest) };
+/// ```
 impl<'a, K: Key, T> Iterator for IterFrom<'a, K, T> {
     type Item = (K, &'a T);
 

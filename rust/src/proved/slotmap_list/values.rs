@@ -17,6 +17,15 @@ pub struct Cursors<'a, K, T> {
     elements: Iter<'a, K, T>,
 }
 
+/// # Proved
+///
+/// What this impl is proved to give:
+///
+/// ```text
+/// ghost next_gives = { YieldsFirstBy K.data_of (λ rest. rest) };
+///
+/// ghost remaining = { item_count (λ rest. rest) };
+/// ```
 impl<'a, K: Key, T> Iterator for Cursors<'a, K, T> {
     type Item = K;
 
@@ -61,6 +70,15 @@ pub struct Values<'a, K, T> {
     elements: Iter<'a, K, T>,
 }
 
+/// # Proved
+///
+/// What this impl is proved to give:
+///
+/// ```text
+/// ghost next_gives = { YieldsFirstBy (λ item. item.now) (λ rest. rest) };
+///
+/// ghost remaining = { item_count (λ rest. rest) };
+/// ```
 impl<'a, K: Key, T> Iterator for Values<'a, K, T> {
     type Item = &'a T;
 

@@ -51,6 +51,16 @@ impl<K: Key, T: Clone> StableLists<K, T> {
     }
 }
 
+/// # Proved
+///
+/// What this impl is proved to give:
+///
+/// ```text
+/// ghost is_clone = { λ lists copy. (length copy.lists ≡ length lists.lists)
+///     × ((q : ℕ) → AreClones T.is_clone (elements_of q lists.lists) (elements_of q copy.lists)) × IsCopy lists.cursors copy.cursors };
+/// ```
+///
+/// Words: [`AreClones`](crate::words#areclones), [`cursors`](crate::words#cursors-of-slotmap_lists-sequences), [`elements_of`](crate::words#elements_of), [`IsCopy`](crate::words#iscopy), [`lists`](crate::words#lists).
 impl<K: Key, T: Clone> Clone for StableLists<K, T> {
     #[inline]
     fn clone(&self) -> Result<Self, AllocError> {

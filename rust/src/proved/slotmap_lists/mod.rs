@@ -601,6 +601,18 @@ impl<K: Key, T> StableLists<K, T> {
 }
 
 /// `lists[cursor]` is the value of a cursor. The caller proves that it is in a list.
+///
+/// # Proved
+///
+/// What this impl is proved to give:
+///
+/// ```text
+/// ghost can_index = { λ lists cursor. is_some (value_under (K.data_of cursor) lists.lists) ≡ true };
+///
+/// ghost index_gives = { λ lists cursor value. value_under (K.data_of cursor) lists.lists ≡ Some value };
+/// ```
+///
+/// Words: [`lists`](crate::words#lists), [`value_under`](crate::words#value_under).
 impl<K: Key, T> Index<K> for StableLists<K, T> {
     type Output = T;
 

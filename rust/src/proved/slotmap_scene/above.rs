@@ -22,6 +22,15 @@ pub struct Ancestors<'a, K, T> {
     key_type: PhantomData<K>,
 }
 
+/// # Proved
+///
+/// What this impl is proved to give:
+///
+/// ```text
+/// ghost next_gives = { YieldsFirstBy K.data_of (λ rest. rest) };
+///
+/// ghost remaining = { item_count (λ rest. rest) };
+/// ```
 impl<'a, K: Key, T> Iterator for Ancestors<'a, K, T> {
     type Item = K;
 
@@ -53,6 +62,15 @@ fn is_root(parents: &[u32], node: DefaultKey) -> bool {
     }
 }
 
+/// # Proved
+///
+/// What this impl is proved to give:
+///
+/// ```text
+/// ghost next_gives = { YieldsFirstBy K.data_of (λ rest. rest) };
+///
+/// ghost remaining = { item_count (λ rest. rest) };
+/// ```
 impl<'a, K: Key, T> Iterator for Roots<'a, K, T> {
     type Item = K;
 

@@ -21,6 +21,15 @@ pub struct KeysBelow<'a, K: Key, T> {
     at: Option<K>,
 }
 
+/// # Proved
+///
+/// What this impl is proved to give:
+///
+/// ```text
+/// ghost next_gives = { YieldsFirstBy K.data_of (λ rest. rest) };
+///
+/// ghost remaining = { item_count (λ rest. rest) };
+/// ```
 impl<'a, K: Key, T> Iterator for KeysBelow<'a, K, T> {
     type Item = K;
 

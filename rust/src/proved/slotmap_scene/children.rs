@@ -55,6 +55,15 @@ impl<'a, K, T> ChildKeys<'a, K, T> {
     }
 }
 
+/// # Proved
+///
+/// What this impl is proved to give:
+///
+/// ```text
+/// ghost is_clone = { λ it copy. copy ≡ it };
+///
+/// ghost is_infallible = { λ _. ⊤ };
+/// ```
 impl<'a, K, T> Clone for ChildKeys<'a, K, T> {
     #[inline]
     fn clone(&self) -> Result<Self, AllocError> {
@@ -66,6 +75,15 @@ impl<'a, K, T> Clone for ChildKeys<'a, K, T> {
     }
 }
 
+/// # Proved
+///
+/// What this impl is proved to give:
+///
+/// ```text
+/// ghost next_gives = { YieldsFirstBy K.data_of (λ rest. rest) };
+///
+/// ghost remaining = { item_count (λ rest. rest) };
+/// ```
 impl<'a, K: Key, T> Iterator for ChildKeys<'a, K, T> {
     type Item = K;
 

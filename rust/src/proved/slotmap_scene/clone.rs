@@ -63,6 +63,15 @@ impl<K: Key, T: Clone> Scene<K, T> {
     }
 }
 
+/// # Proved
+///
+/// What this impl is proved to give:
+///
+/// ```text
+/// ghost is_clone = { λ scene copy. IsCloneBy (IsNodeClone T.is_clone) scene.nodes copy.nodes };
+/// ```
+///
+/// Words: [`IsCloneBy`](crate::words#iscloneby), [`IsNodeClone`](crate::words#isnodeclone), [`nodes`](crate::words#nodes-of-slotmap_scene-node).
 impl<K: Key, T: Clone> Clone for Scene<K, T> {
     #[inline]
     fn clone(&self) -> Result<Self, AllocError> {

@@ -45,6 +45,15 @@ impl<'a, K, T> Iter<'a, K, T> {
     }
 }
 
+/// # Proved
+///
+/// What this impl is proved to give:
+///
+/// ```text
+/// ghost next_gives = { YieldsFirstBy (λ item. (K.data_of item.0, item.1.now)) (λ rest. rest) };
+///
+/// ghost remaining = { item_count (λ rest. rest) };
+/// ```
 impl<'a, K: Key, T> Iterator for Iter<'a, K, T> {
     type Item = (K, &'a T);
 
@@ -72,6 +81,15 @@ impl<'a, K: Key, T> ExactSizeIterator for Iter<'a, K, T> {
 
 impl<'a, K: Key, T> FusedIterator for Iter<'a, K, T> {}
 
+/// # Proved
+///
+/// What this impl is proved to give:
+///
+/// ```text
+/// ghost into_iter_gives = { λ scene it. it ≡ list_map key_and_value (map.entries scene.now.nodes.live) };
+/// ```
+///
+/// Words: [`key_and_value`](crate::words#key_and_value), [`live`](crate::words#live), [`nodes`](crate::words#nodes-of-slotmap_scene-node).
 impl<'a, K: Key, T> IntoIterator for &'a Scene<K, T> {
     type Item = (K, &'a T);
 
@@ -91,6 +109,15 @@ pub struct Keys<'a, K, T> {
     nodes: Iter<'a, K, T>,
 }
 
+/// # Proved
+///
+/// What this impl is proved to give:
+///
+/// ```text
+/// ghost next_gives = { YieldsFirstBy K.data_of (λ rest. rest) };
+///
+/// ghost remaining = { item_count (λ rest. rest) };
+/// ```
 impl<'a, K: Key, T> Iterator for Keys<'a, K, T> {
     type Item = K;
 
@@ -125,6 +152,15 @@ pub struct Values<'a, K, T> {
     nodes: Iter<'a, K, T>,
 }
 
+/// # Proved
+///
+/// What this impl is proved to give:
+///
+/// ```text
+/// ghost next_gives = { YieldsFirstBy (λ item. item.now) (λ rest. rest) };
+///
+/// ghost remaining = { item_count (λ rest. rest) };
+/// ```
 impl<'a, K: Key, T> Iterator for Values<'a, K, T> {
     type Item = &'a T;
 

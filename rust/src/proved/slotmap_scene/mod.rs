@@ -119,6 +119,15 @@ pub enum AddError<T> {
     Memory(T),
 }
 
+/// # Proved
+///
+/// What this impl is proved to give:
+///
+/// ```text
+/// ghost from_gives = { λ from error. error ≡ as_add_error from };
+/// ```
+///
+/// Words: [`as_add_error`](crate::words#as_add_error).
 impl<T> From<InsertError<T>> for AddError<T> {
     #[inline]
     fn from(error: InsertError<T>) -> AddError<T> {
@@ -567,6 +576,18 @@ impl<K: Key, T> Scene<K, T> {
 }
 
 /// `scene[node]` is the value of a node. The caller proves that the node exists.
+///
+/// # Proved
+///
+/// What this impl is proved to give:
+///
+/// ```text
+/// ghost can_index = { λ scene node. has_node scene.nodes.live (K.data_of node) };
+///
+/// ghost index_gives = { λ scene node value. value_of scene.nodes.live (K.data_of node) ≡ Some value };
+/// ```
+///
+/// Words: [`has_node`](crate::words#has_node), [`live`](crate::words#live), [`nodes`](crate::words#nodes-of-slotmap_scene-node), [`value_of`](crate::words#value_of-of-slotmap_scene-family).
 impl<K: Key, T> Index<K> for Scene<K, T> {
     type Output = T;
 

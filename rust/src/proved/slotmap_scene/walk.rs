@@ -29,6 +29,17 @@ pub struct Walk<'a, K: Key, T> {
     at: Option<Visit<K>>,
 }
 
+/// # Proved
+///
+/// What this impl is proved to give:
+///
+/// ```text
+/// ghost next_gives = { YieldsFirstBy (visit_of K.data_of) (λ rest. rest) };
+///
+/// ghost remaining = { item_count (λ rest. rest) };
+/// ```
+///
+/// Words: [`visit_of`](crate::words#visit_of).
 impl<'a, K: Key, T> Iterator for Walk<'a, K, T> {
     type Item = Visit<K>;
 

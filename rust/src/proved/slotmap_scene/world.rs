@@ -44,9 +44,16 @@ use crate::proved::slotmap_bounded::{inner, outer};
 /// `b.under(c)`, [`Scene::world`] and [`Scene::world_transform`] say more.
 ///
 /// In Rattle each impl is proved to do what the clauses here say. In Rust nothing checks that. An impl that does otherwise spoils the transforms that a scene of it returns.
+///
+/// # Proved
+///
+/// What each impl of this crate is proved to give and to keep:
+///
+/// ```text
+/// // The first value, in the coordinates in which the second one is given.
+/// ghost under: { Self → Self → Self };
+/// ```
 pub trait Transform: Copy {
-    /// The first value, in the coordinates in which the second one is given.
-
     /// Returns this value in the coordinates in which its parent is given.
     ///
     /// ```
@@ -72,11 +79,18 @@ pub trait Transform: Copy {
 /// A value that has a transform among other things: a node that has a name too, for example.
 ///
 /// In Rattle each impl is proved to do what the clauses here say. In Rust nothing checks that. An impl that does otherwise spoils the transforms that a scene of it returns.
+///
+/// # Proved
+///
+/// What each impl of this crate is proved to give and to keep:
+///
+/// ```text
+/// // The transform of a value.
+/// ghost transform_of: { Self → Self.Transform };
+/// ```
 pub trait HasTransform {
     /// The type of the transform.
     type Transform: Transform;
-
-    /// The transform of a value.
 
     /// Returns the transform of this value.
     ///

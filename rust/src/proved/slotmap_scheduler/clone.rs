@@ -67,6 +67,15 @@ impl<K: Key, T: Clone> Scheduler<K, T> {
     }
 }
 
+/// # Proved
+///
+/// What this impl is proved to give:
+///
+/// ```text
+/// ghost is_clone = { λ scheduler copy. AreClones (IsDueClone T.is_clone) scheduler.waiting copy.waiting × IsCopy scheduler.handles copy.handles × (copy.turns ≡ scheduler.turns) };
+/// ```
+///
+/// Words: [`AreClones`](crate::words#areclones), [`handles`](crate::words#handles), [`IsCopy`](crate::words#iscopy), [`IsDueClone`](crate::words#isdueclone), [`turns`](crate::words#turns), [`waiting`](crate::words#waiting-of-slotmap_scheduler-schedule).
 impl<K: Key, T: Clone> Clone for Scheduler<K, T> {
     #[inline]
     fn clone(&self) -> Result<Self, AllocError> {

@@ -34,6 +34,15 @@ pub struct IntoIter<K, T> {
     scheduler: Scheduler<K, T>,
 }
 
+/// # Proved
+///
+/// What this impl is proved to give:
+///
+/// ```text
+/// ghost next_gives = { YieldsFirstBy (λ item. (K.data_of item.0, (item.1, item.2))) (λ rest. rest) };
+///
+/// ghost remaining = { item_count (λ rest. rest) };
+/// ```
 impl<K: Key, T> Iterator for IntoIter<K, T> {
     type Item = (K, u64, T);
 
@@ -61,6 +70,15 @@ impl<K: Key, T> ExactSizeIterator for IntoIter<K, T> {
 
 impl<K: Key, T> FusedIterator for IntoIter<K, T> {}
 
+/// # Proved
+///
+/// What this impl is proved to give:
+///
+/// ```text
+/// ghost into_iter_gives = { λ scheduler it. (it ≡ scheduler.waiting) × IsByTime it × IsOnce it };
+/// ```
+///
+/// Words: [`IsByTime`](crate::words#isbytime), [`IsOnce`](crate::words#isonce-of-slotmap_scheduler-schedule), [`waiting`](crate::words#waiting-of-slotmap_scheduler-schedule).
 impl<K: Key, T> IntoIterator for Scheduler<K, T> {
     type Item = (K, u64, T);
 

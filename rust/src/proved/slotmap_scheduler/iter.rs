@@ -18,6 +18,15 @@ pub struct Iter<'a, K, T> {
     handle_type: PhantomData<K>,
 }
 
+/// # Proved
+///
+/// What this impl is proved to give:
+///
+/// ```text
+/// ghost next_gives = { YieldsFirstBy (λ item. (K.data_of item.0, (item.1, item.2.now))) (λ rest. rest) };
+///
+/// ghost remaining = { item_count (λ rest. rest) };
+/// ```
 impl<'a, K: Key, T> Iterator for Iter<'a, K, T> {
     type Item = (K, u64, &'a T);
 
@@ -45,6 +54,16 @@ impl<'a, K: Key, T> ExactSizeIterator for Iter<'a, K, T> {
 
 impl<'a, K: Key, T> FusedIterator for Iter<'a, K, T> {}
 
+/// # Proved
+///
+/// What this impl is proved to give:
+///
+/// ```text
+/// ghost into_iter_gives = { λ scheduler it. ListsJobs scheduler.now.waiting it × IsOnce it
+///     × (list_map (λ e. e.0) it ≡ map.keys scheduler.now.handles.live) };
+/// ```
+///
+/// Words: [`handles`](crate::words#handles), [`IsOnce`](crate::words#isonce-of-slotmap_scheduler-schedule), [`ListsJobs`](crate::words#listsjobs), [`live`](crate::words#live), [`waiting`](crate::words#waiting-of-slotmap_scheduler-schedule).
 impl<'a, K: Key, T> IntoIterator for &'a Scheduler<K, T> {
     type Item = (K, u64, &'a T);
 
@@ -64,6 +83,15 @@ pub struct Keys<'a, K, T> {
     jobs: Iter<'a, K, T>,
 }
 
+/// # Proved
+///
+/// What this impl is proved to give:
+///
+/// ```text
+/// ghost next_gives = { YieldsFirstBy K.data_of (λ rest. rest) };
+///
+/// ghost remaining = { item_count (λ rest. rest) };
+/// ```
 impl<'a, K: Key, T> Iterator for Keys<'a, K, T> {
     type Item = K;
 
@@ -97,6 +125,15 @@ pub struct Values<'a, K, T> {
     jobs: Iter<'a, K, T>,
 }
 
+/// # Proved
+///
+/// What this impl is proved to give:
+///
+/// ```text
+/// ghost next_gives = { YieldsFirstBy (λ item. item.now) (λ rest. rest) };
+///
+/// ghost remaining = { item_count (λ rest. rest) };
+/// ```
 impl<'a, K: Key, T> Iterator for Values<'a, K, T> {
     type Item = &'a T;
 

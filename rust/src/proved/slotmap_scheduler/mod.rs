@@ -448,6 +448,18 @@ impl<K: Key, T> Scheduler<K, T> {
 }
 
 /// `scheduler[handle]` is the job of a handle. The caller proves that it waits.
+///
+/// # Proved
+///
+/// What this impl is proved to give:
+///
+/// ```text
+/// ghost can_index = { λ s handle. is_some (job_of (K.data_of handle) s.waiting) ≡ true };
+///
+/// ghost index_gives = { λ s handle job. option_map (λ due. due.1) (job_of (K.data_of handle) s.waiting) ≡ Some job };
+/// ```
+///
+/// Words: [`job_of`](crate::words#job_of), [`waiting`](crate::words#waiting-of-slotmap_scheduler-schedule).
 impl<K: Key, T> Index<K> for Scheduler<K, T> {
     type Output = T;
 

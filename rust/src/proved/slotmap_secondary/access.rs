@@ -256,6 +256,17 @@ impl<K: Key, V> SecondaryMap<K, V> {
     }
 }
 
+/// # Proved
+///
+/// What this impl is proved to give:
+///
+/// ```text
+/// ghost can_index = { λ m key. contains_key m.pairs (K.data_of key) ≡ true };
+///
+/// ghost index_gives = { λ m key value. get m.pairs (K.data_of key) ≡ Some value };
+/// ```
+///
+/// Words: [`contains_key`](crate::words#contains_key), [`get`](crate::words#get), [`pairs`](crate::words#pairs-of-slotmap_secondary-content).
 impl<K: Key, V> Index<K> for SecondaryMap<K, V> {
     type Output = V;
 

@@ -108,6 +108,16 @@ impl<K: Key, V: Clone> SecondaryMap<K, V> {
 
 /// Calls the method `clone`. It is for code that is generic over `Clone`, such as the derived `Clone`
 /// of a struct.
+///
+/// # Proved
+///
+/// What this impl is proved to give:
+///
+/// ```text
+/// ghost is_clone = { λ m copy. HasClones V.is_clone m.pairs copy.pairs × (copy.places ≡ m.places) × IsSideContent copy };
+/// ```
+///
+/// Words: [`HasClones`](crate::words#hasclones), [`IsSideContent`](crate::words#issidecontent), [`pairs`](crate::words#pairs-of-slotmap_secondary-content), [`places`](crate::words#places-of-slotmap_secondary-content).
 impl<K: Key, V: Clone> Clone for SecondaryMap<K, V> {
     #[inline]
     fn clone(&self) -> Result<Self, AllocError> {

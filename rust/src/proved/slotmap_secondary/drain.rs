@@ -29,6 +29,19 @@ impl<'a, K: Key, V> Drop for Drain<'a, K, V> {
     }
 }
 
+/// # Proved
+///
+/// What this impl is proved to give:
+///
+/// ```text
+/// ghost can_next = { SideDrainCanStep };
+///
+/// ghost next_gives = { SideDrainSteps K.data_of };
+///
+/// ghost remaining = { drain_count };
+/// ```
+///
+/// Words: [`drain_count`](crate::words#drain_count-of-slotmap_secondary-drain), [`SideDrainCanStep`](crate::words#sidedraincanstep), [`SideDrainSteps`](crate::words#sidedrainsteps).
 impl<'a, K: Key, V> Iterator for Drain<'a, K, V> {
     type Item = (K, V);
 

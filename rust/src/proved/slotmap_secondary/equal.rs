@@ -7,6 +7,15 @@ use crate::rt::prelude::*;
 use crate::proved::slotmap_secondary::SecondaryMap;
 use crate::proved::slotmap_core::keys::Key;
 
+/// # Proved
+///
+/// What this impl is proved to give:
+///
+/// ```text
+/// ghost eq = { λ a b. are_equal V.eq a.pairs b.pairs };
+/// ```
+///
+/// Words: [`are_equal`](crate::words#are_equal), [`pairs`](crate::words#pairs-of-slotmap_secondary-content).
 impl<K: Key, V: PartialEq> PartialEq for SecondaryMap<K, V> {
     /// Returns whether both maps hold the same keys with equal values.
     ///

@@ -69,6 +69,15 @@ impl<K, V> fmt::Debug for IntoIter<K, V> {
     }
 }
 
+/// # Proved
+///
+/// What this impl is proved to give:
+///
+/// ```text
+/// ghost next_gives = { YieldsFirstBy (λ item. (K.data_of item.0, item.1)) (λ rest. rest) };
+///
+/// ghost remaining = { item_count (λ rest. rest) };
+/// ```
 impl<K: Key, V> Iterator for IntoIter<K, V> {
     type Item = (K, V);
 
@@ -104,6 +113,15 @@ impl<K: Key, V> ExactSizeIterator for IntoIter<K, V> {
 
 impl<K: Key, V> FusedIterator for IntoIter<K, V> {}
 
+/// # Proved
+///
+/// What this impl is proved to give:
+///
+/// ```text
+/// ghost into_iter_gives = { λ m it. ListsByIndex (keyed m.pairs) it };
+/// ```
+///
+/// Words: [`keyed`](crate::words#keyed), [`ListsByIndex`](crate::words#listsbyindex), [`pairs`](crate::words#pairs-of-slotmap_secondary-content).
 impl<K: Key, V> IntoIterator for SecondaryMap<K, V> {
     type Item = (K, V);
 

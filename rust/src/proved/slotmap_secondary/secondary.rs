@@ -9,6 +9,15 @@ use crate::proved::slotmap_core::errors::PutError;
 use crate::proved::slotmap_core::keys::Key;
 use crate::proved::slotmap_core::secondary::{OrPut, Secondary};
 
+/// # Proved
+///
+/// What this impl is proved to give:
+///
+/// ```text
+/// ghost pairs = { λ m. m.pairs };
+/// ```
+///
+/// Words: [`pairs`](crate::words#pairs-of-slotmap_secondary-content).
 impl<K: Key, V> Secondary<K, V> for SecondaryMap<K, V> {
     #[inline]
     fn len(&self) -> usize {

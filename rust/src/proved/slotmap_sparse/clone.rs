@@ -106,6 +106,16 @@ impl<K: Key, V: Clone, S: BuildHasher + Clone> SparseSecondaryMap<K, V, S> {
 
 /// Calls the method `clone`. It is for code that is generic over `Clone`, such as the derived `Clone`
 /// of a struct.
+///
+/// # Proved
+///
+/// What this impl is proved to give:
+///
+/// ```text
+/// ghost is_clone = { λ m copy. HasClones V.is_clone m.pairs copy.pairs × IsSparseContent copy };
+/// ```
+///
+/// Words: [`HasClones`](crate::words#hasclones), [`IsSparseContent`](crate::words#issparsecontent), [`pairs`](crate::words#pairs-of-slotmap_sparse-content).
 impl<K: Key, V: Clone, S: BuildHasher + Clone> Clone for SparseSecondaryMap<K, V, S> {
     #[inline]
     fn clone(&self) -> Result<Self, AllocError> {

@@ -25,6 +25,17 @@ impl<'a, K: Key, V, S: BuildHasher> Drop for Drain<'a, K, V, S> {
     }
 }
 
+/// # Proved
+///
+/// What this impl is proved to give:
+///
+/// ```text
+/// ghost next_gives = { SparseDrainSteps K.data_of };
+///
+/// ghost remaining = { drain_count };
+/// ```
+///
+/// Words: [`drain_count`](crate::words#drain_count-of-slotmap_sparse-drain), [`SparseDrainSteps`](crate::words#sparsedrainsteps).
 impl<'a, K: Key, V, S: BuildHasher> Iterator for Drain<'a, K, V, S> {
     type Item = (K, V);
 

@@ -252,7 +252,7 @@ impl<'a, K: Key, V, S: BuildHasher> Entry<'a, K, V, S> {
     /// ensures room { map.len (sparse_entry_map self.entry).pairs < (sparse_entry_map self.entry).capacity → IsOk result }
     /// ```
     ///
-    /// Words: [`capacity`](crate::words#capacity-of-slotmap_sparse-content), [`entry_lends_ok`](crate::words#entry_lends_ok), [`IsSparseInPlace`](crate::words#issparseinplace), [`pairs`](crate::words#pairs-of-slotmap_sparse-content), [`room`](crate::words#room-of-slotmap_sparse-content), [`sparse_entry_map`](crate::words#sparse_entry_map), [`sparse_entry_value`](crate::words#sparse_entry_value).
+    /// Words: [`capacity`](crate::words#capacity-of-slotmap_sparse-content), [`entry_lends_ok`](crate::words#entry_lends_ok), [`IsSparseInPlace`](crate::words#issparseinplace), [`pairs`](crate::words#pairs-of-slotmap_sparse-content), [`sparse_entry_map`](crate::words#sparse_entry_map), [`sparse_entry_value`](crate::words#sparse_entry_value).
     #[inline]
     pub fn or_insert(self, value: V) -> Result<&'a mut V, PutError<V>> {
         match self {
@@ -294,7 +294,7 @@ impl<'a, K: Key, V, S: BuildHasher> Entry<'a, K, V, S> {
     /// ensures room { map.len (sparse_entry_map self.entry).pairs < (sparse_entry_map self.entry).capacity → IsOk result }
     /// ```
     ///
-    /// Words: [`capacity`](crate::words#capacity-of-slotmap_sparse-content), [`entry_lends_ok`](crate::words#entry_lends_ok), [`IsSparseInPlace`](crate::words#issparseinplace), [`pairs`](crate::words#pairs-of-slotmap_sparse-content), [`room`](crate::words#room-of-slotmap_sparse-content), [`sparse_entry_map`](crate::words#sparse_entry_map), [`sparse_entry_value`](crate::words#sparse_entry_value).
+    /// Words: [`capacity`](crate::words#capacity-of-slotmap_sparse-content), [`entry_lends_ok`](crate::words#entry_lends_ok), [`IsSparseInPlace`](crate::words#issparseinplace), [`pairs`](crate::words#pairs-of-slotmap_sparse-content), [`sparse_entry_map`](crate::words#sparse_entry_map), [`sparse_entry_value`](crate::words#sparse_entry_value).
     #[inline]
     pub fn or_insert_with<F: FnOnce() -> V>(self, f: F) -> Result<&'a mut V, OutOfMemory>
     where
@@ -336,7 +336,7 @@ impl<'a, K: Key, V, S: BuildHasher> Entry<'a, K, V, S> {
     /// ensures room { map.len (sparse_entry_map self.entry).pairs < (sparse_entry_map self.entry).capacity → IsOk result }
     /// ```
     ///
-    /// Words: [`capacity`](crate::words#capacity-of-slotmap_sparse-content), [`entry_lends_ok`](crate::words#entry_lends_ok), [`IsSparseInPlace`](crate::words#issparseinplace), [`pairs`](crate::words#pairs-of-slotmap_sparse-content), [`room`](crate::words#room-of-slotmap_sparse-content), [`sparse_entry_map`](crate::words#sparse_entry_map), [`sparse_entry_value`](crate::words#sparse_entry_value).
+    /// Words: [`capacity`](crate::words#capacity-of-slotmap_sparse-content), [`entry_lends_ok`](crate::words#entry_lends_ok), [`IsSparseInPlace`](crate::words#issparseinplace), [`pairs`](crate::words#pairs-of-slotmap_sparse-content), [`sparse_entry_map`](crate::words#sparse_entry_map), [`sparse_entry_value`](crate::words#sparse_entry_value).
     #[inline]
     pub fn or_default(self) -> Result<&'a mut V, OutOfMemory>
     where
@@ -415,7 +415,7 @@ impl<'a, K: Key, V, S: BuildHasher> VacantEntry<'a, K, V, S> {
     /// ensures room { map.len (sparse_entry_map (Vacant self.entry)).pairs < (sparse_entry_map (Vacant self.entry)).capacity → IsOk result }
     /// ```
     ///
-    /// Words: [`capacity`](crate::words#capacity-of-slotmap_sparse-content), [`entry_lends_ok`](crate::words#entry_lends_ok), [`IsSparseInPlace`](crate::words#issparseinplace), [`pairs`](crate::words#pairs-of-slotmap_sparse-content), [`room`](crate::words#room-of-slotmap_sparse-content), [`sparse_entry_map`](crate::words#sparse_entry_map).
+    /// Words: [`capacity`](crate::words#capacity-of-slotmap_sparse-content), [`entry_lends_ok`](crate::words#entry_lends_ok), [`IsSparseInPlace`](crate::words#issparseinplace), [`pairs`](crate::words#pairs-of-slotmap_sparse-content), [`sparse_entry_map`](crate::words#sparse_entry_map).
     #[inline]
     pub fn insert(self, value: V) -> Result<&'a mut V, PutError<V>> {
         let VacantEntry { map, key } = self;

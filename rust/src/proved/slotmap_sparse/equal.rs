@@ -8,6 +8,15 @@ use crate::proved::slotmap_sparse::SparseSecondaryMap;
 use crate::proved::slotmap_core::keys::Key;
 use crate::rt::std::hash::BuildHasher;
 
+/// # Proved
+///
+/// What this impl is proved to give:
+///
+/// ```text
+/// ghost eq = { λ a b. are_equal V.eq a.pairs b.pairs };
+/// ```
+///
+/// Words: [`are_equal`](crate::words#are_equal), [`pairs`](crate::words#pairs-of-slotmap_sparse-content).
 impl<K: Key, V: PartialEq, S: BuildHasher> PartialEq for SparseSecondaryMap<K, V, S> {
     /// Returns whether both maps hold the same keys with equal values.
     ///

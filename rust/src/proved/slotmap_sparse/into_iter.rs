@@ -65,6 +65,15 @@ impl<K, V> fmt::Debug for IntoIter<K, V> {
     }
 }
 
+/// # Proved
+///
+/// What this impl is proved to give:
+///
+/// ```text
+/// ghost next_gives = { YieldsFirstBy (λ item. (K.data_of item.0, item.1)) (λ rest. rest) };
+///
+/// ghost remaining = { item_count (λ rest. rest) };
+/// ```
 impl<K: Key, V> Iterator for IntoIter<K, V> {
     type Item = (K, V);
 
@@ -90,6 +99,15 @@ impl<K: Key, V> ExactSizeIterator for IntoIter<K, V> {
 
 impl<K: Key, V> FusedIterator for IntoIter<K, V> {}
 
+/// # Proved
+///
+/// What this impl is proved to give:
+///
+/// ```text
+/// ghost into_iter_gives = { λ m it. IsListing (keyed m.pairs) it };
+/// ```
+///
+/// Words: [`IsListing`](crate::words#islisting), [`keyed`](crate::words#keyed), [`pairs`](crate::words#pairs-of-slotmap_sparse-content).
 impl<K: Key, V, S: BuildHasher> IntoIterator for SparseSecondaryMap<K, V, S> {
     type Item = (K, V);
 

@@ -55,6 +55,15 @@ impl<'a, K, V> Iter<'a, K, V> {
     }
 }
 
+/// # Proved
+///
+/// What this impl is proved to give:
+///
+/// ```text
+/// ghost is_clone = { λ it copy. copy ≡ it };
+///
+/// ghost is_infallible = { λ _. ⊤ };
+/// ```
 impl<'a, K, V> Clone for Iter<'a, K, V> {
     #[inline]
     fn clone(&self) -> Result<Self, AllocError> {
@@ -74,6 +83,15 @@ impl<'a, K, V> fmt::Debug for Iter<'a, K, V> {
     }
 }
 
+/// # Proved
+///
+/// What this impl is proved to give:
+///
+/// ```text
+/// ghost next_gives = { YieldsFirstBy (λ item. (K.data_of item.0, item.1.now)) (λ rest. rest) };
+///
+/// ghost remaining = { item_count (λ rest. rest) };
+/// ```
 impl<'a, K: Key, V> Iterator for Iter<'a, K, V> {
     type Item = (K, &'a V);
 
@@ -139,6 +157,15 @@ impl<'a, K, V> Keys<'a, K, V> {
     }
 }
 
+/// # Proved
+///
+/// What this impl is proved to give:
+///
+/// ```text
+/// ghost is_clone = { λ it copy. copy ≡ it };
+///
+/// ghost is_infallible = { λ _. ⊤ };
+/// ```
 impl<'a, K, V> Clone for Keys<'a, K, V> {
     #[inline]
     fn clone(&self) -> Result<Self, AllocError> {
@@ -157,6 +184,15 @@ impl<'a, K, V> fmt::Debug for Keys<'a, K, V> {
     }
 }
 
+/// # Proved
+///
+/// What this impl is proved to give:
+///
+/// ```text
+/// ghost next_gives = { YieldsFirstBy K.data_of (λ rest. rest) };
+///
+/// ghost remaining = { item_count (λ rest. rest) };
+/// ```
 impl<'a, K: Key, V> Iterator for Keys<'a, K, V> {
     type Item = K;
 
@@ -222,6 +258,15 @@ impl<'a, K, V> Values<'a, K, V> {
     }
 }
 
+/// # Proved
+///
+/// What this impl is proved to give:
+///
+/// ```text
+/// ghost is_clone = { λ it copy. copy ≡ it };
+///
+/// ghost is_infallible = { λ _. ⊤ };
+/// ```
 impl<'a, K, V> Clone for Values<'a, K, V> {
     #[inline]
     fn clone(&self) -> Result<Self, AllocError> {
@@ -240,6 +285,15 @@ impl<'a, K, V> fmt::Debug for Values<'a, K, V> {
     }
 }
 
+/// # Proved
+///
+/// What this impl is proved to give:
+///
+/// ```text
+/// ghost next_gives = { YieldsFirstBy (λ item. item.now) (λ rest. rest) };
+///
+/// ghost remaining = { item_count (λ rest. rest) };
+/// ```
 impl<'a, K: Key, V> Iterator for Values<'a, K, V> {
     type Item = &'a V;
 
@@ -374,6 +428,15 @@ impl<K: Key, V, S: BuildHasher> SparseSecondaryMap<K, V, S> {
     }
 }
 
+/// # Proved
+///
+/// What this impl is proved to give:
+///
+/// ```text
+/// ghost into_iter_gives = { λ m it. IsListing (keyed m.now.pairs) it };
+/// ```
+///
+/// Words: [`IsListing`](crate::words#islisting), [`keyed`](crate::words#keyed), [`pairs`](crate::words#pairs-of-slotmap_sparse-content).
 impl<'a, K: Key, V, S: BuildHasher> IntoIterator for &'a SparseSecondaryMap<K, V, S> {
     type Item = (K, &'a V);
 

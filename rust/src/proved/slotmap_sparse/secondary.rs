@@ -10,6 +10,15 @@ use crate::proved::slotmap_core::keys::Key;
 use crate::proved::slotmap_core::secondary::{OrPut, Secondary};
 use crate::rt::std::hash::BuildHasher;
 
+/// # Proved
+///
+/// What this impl is proved to give:
+///
+/// ```text
+/// ghost pairs = { λ m. m.pairs };
+/// ```
+///
+/// Words: [`pairs`](crate::words#pairs-of-slotmap_sparse-content).
 impl<K: Key, V, S: BuildHasher> Secondary<K, V> for SparseSecondaryMap<K, V, S> {
     #[inline]
     fn len(&self) -> usize {

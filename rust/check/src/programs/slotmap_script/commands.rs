@@ -20,10 +20,6 @@ pub type Detachable = DetachCommand<DefaultKey, i32>;
 
 /// The commands of the maps `M`: which lines they have, and how they are run.
 pub trait Commands<M>: Sized + Sized {
-    /// The command of the words of a line, if the maps have such a line.
-
-    /// With which replies these commands take a map from one value to another.
-
     /// The command of a line with these words, or `None` if the maps have no such line.
     ///
     /// # Proved
