@@ -4,6 +4,8 @@ import re
 from .clauses import contracts_of, section_of, subject
 from .tokens import Bad
 
+# What a comment says that isn't so in Rust, where the trait is sealed.
+NOT_IN_RUST = {("slotmap_entities", "tuples"): re.compile(r" A struct of tables can have an impl of its\n/// own.*?/// ```text\n.*?/// ```\n(?=///\n)", re.S)}
 FUNCTION = re.compile(r"(\s*)(pub(?:\([^)]*\))? )?(?:const )?fn (\w+)")
 
 
@@ -63,6 +65,9 @@ def with_contracts(text, crate, path):
 
 def documented(text, crate, path):
     """Moves the clauses of each function into its rustdoc, or drops them where there is none."""
+    if (crate, path) in NOT_IN_RUST:
+        text, count = NOT_IN_RUST[crate, path].subn("\n", text)
+        if count != 1: raise Bad(f"what isn't so in Rust stands {count} times")
     out = []
     for line in text.split("\n"):
         clauses = re.findall("\x01(.*?)\x02", line.replace("\x03", "\n"), re.S)

@@ -10,43 +10,7 @@ use crate::rt::std::alloc::Global;
 
 /// The tables of a world: pairs of a [`Table`] and further tables, down to `()`.
 ///
-/// Pairs nest, for any number of kinds. A struct of tables can have an impl of its
-/// own, and each of its kinds one of [`Kind`](crate::proved::slotmap_entities::Kind). With the attribute below that needs no proof file:
-///
-/// ```text
-/// #[tactic(auto, using(slotmap::proofs::Callers::secondary))]
-/// impl Tables<DefaultKey> for Parts {
-///     type Parts = (Option<u32>, Option<u8>);
-///
-///     ghost has = { λ tables k. contains_key tables.health.pairs k || contains_key tables.armour.pairs k };
-///
-///     ghost parts = { λ tables k. (get tables.health.pairs k, get tables.armour.pairs k) };
-///
-///     ghost no_parts = { (None, None) };
-///
-///     ghost keeps_room = { λ old new. (old.health.capacity ≤ new.health.capacity) × (old.armour.capacity ≤ new.armour.capacity) };
-///
-///     ghost gives_back = { λ old new. (old.health.capacity ≤ new.health.capacity) × (old.armour.capacity ≤ new.armour.capacity) };
-///     ..
-///     ghost has_none = { λ tables k none. Prim.grind arith };
-///
-///     ghost same_room = { λ tables. (Prim.omega arith, Prim.omega arith) };
-/// }
-///
-/// impl Kind<DefaultKey, Parts> for Health {
-///     type Table = SecondaryMap<DefaultKey, u32>;
-///
-///     ghost table = { λ tables. tables.health };
-///
-///     ghost with_table = { λ tables table. record tables { health = table } };
-///     ..
-///     ghost has_own = { λ tables k. Prim.grind arith };
-///
-///     ghost own_room = { λ old new keeps i count fit. let grows = keeps.0 in Prim.omega arith };
-///
-///     ghost own_back = { λ old new back i count fit. let grows = back.0 in Prim.omega arith };
-/// }
-/// ```
+/// Pairs nest, for any number of kinds.
 ///
 /// ```
 /// # use slotmap_proved::{DefaultKey, Global, Key};
