@@ -89,9 +89,8 @@ def subject(header):
 @functools.cache
 def contracts_of(crate, path):
     """The sections of the public traits of a file and of the impls of traits for public types, by what they are of, in their order."""
-    found = {}
-    if crate not in word_page.SHOWN: return found
-    name = f"crates/{crate}/src/{path}.rt"
+    found, name = {}, f"crates/{crate}/src/{path}.rt"
+    if crate not in word_page.SHOWN or not os.path.exists(os.path.join(TOP, name)): return found
     with open(os.path.join(TOP, name), encoding="utf-8") as file:
         lines = file.read().split("\n")
     for item in read_items(name, lines, 0, len(lines), 0):
