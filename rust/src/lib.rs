@@ -60,7 +60,9 @@ mod proved;
 #[allow(warnings)]
 #[deny(rustdoc::broken_intra_doc_links)]
 pub mod proved;
+// The programs of the folder `check` use what the crate itself does not.
 #[cfg(not(feature = "internals"))]
+#[allow(dead_code, unused_imports)]
 mod rt;
 #[cfg(feature = "internals")]
 #[doc(hidden)]
