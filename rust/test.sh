@@ -1,0 +1,23 @@
+#!/usr/bin/env bash
+# rust/test.sh
+#
+# Tests the Rust crate with cargo and Python alone, without a registry:
+#
+# - the generated files are those of the sources, and the script that writes them refuses what it has to refuse;
+# - the library under the package rust/check: the project's programs print what the proved ones print; random calls beside models;
+#   refused and counted memory; a panic at each moment of each call; premises that nobody proves in Rust;
+# - the examples of the documentation, as one program, and the documentation itself, without a warning;
+# - the example of the pages.
+#
+# What stands beside other crates isn't here: rust/beside.sh and rust/upstream.sh need slotmap, petgraph or serde. rust/systems.sh runs the
+# programs on other systems.
+set -euo pipefail
+cd "$(dirname "$0")"
+command -v cargo >/dev/null || { echo "rust/test.sh: it needs cargo, of Rust 1.87 or newer" >&2; exit 2; }
+python3 erase.py --check
+python3 eraser/test.py
+(cd check && cargo test --offline --quiet)
+(cd check/examples && cargo test --offline --quiet --doc)
+(cd check && RUSTDOCFLAGS="-D warnings" cargo doc --offline --quiet --no-deps --lib)
+(cd check && cargo run --offline --quiet --example names) | diff - <(sed -n '/<!-- printed -->/,/<!-- end -->/s/^    //p' ../docs/C.md | sed '/^$/d')
+echo "rust/test.sh: ok"
