@@ -38,6 +38,7 @@ pub(crate) fn all<T, const N: usize>(found: [Option<T>; N]) -> Option<[T; N]> {
 #[cfg(test)]
 mod tests {
     use super::disjoint;
+    use crate::{DenseSlotMap, HopSlotMap, SecondaryMap, SlotMap, SparseSecondaryMap};
 
     /// What `disjoint` lends, as numbers.
     fn lent<const N: usize>(places: [usize; N]) -> Option<[u8; N]> {
@@ -68,4 +69,81 @@ mod tests {
         }
         assert_eq!(items, [3, 0, 2, 0, 0, 1]);
     }
+
+    /// Numbers that look random.
+    fn next(seed: &mut u64, below: usize) -> usize {
+        *seed = seed.wrapping_mul(6364136223846793005).wrapping_add(1442695040888963407);
+        (*seed >> 33) as usize % below
+    }
+
+    /// Whether a walk that lends yields what `iter` does, in the same order, and says at each step how much is left.
+    macro_rules! check_walks {
+        ($map:ident, $seed:ident) => {
+            let expected: Vec<_> = $map.iter().map(|(key, value)| (key, *value)).collect();
+            let mut lent = $map.iter_mut();
+            for (at, pair) in expected.iter().enumerate() {
+                assert_eq!(lent.len(), expected.len() - at);
+                assert_eq!(lent.next().map(|(key, value)| (key, *value)), Some(*pair));
+            }
+            assert!(lent.next().is_none() && lent.len() == 0 && lent.next().is_none());
+            $map.values_mut().for_each(|value| *value += 1);
+            assert!($map.iter().map(|(key, value)| (key, *value - 1)).eq(expected.iter().copied()));
+            if expected.len() > 2 {
+                let [a, b, c] = [(); 3].map(|()| expected[next(&mut $seed, expected.len())].0);
+                let differ = a != b && b != c && a != c;
+                let found = $map.get_disjoint_mut([a, b, c]).map(|values| values.map(|value| *value));
+                assert_eq!(found, differ.then(|| [$map[a], $map[b], $map[c]]));
+            }
+        };
+    }
+
+    macro_rules! primary_walks {
+        ($test:ident, $map:ident) => {
+            #[test]
+            fn $test() {
+                for mut seed in 0..40 {
+                    let (mut map, mut keys) = ($map::new(), Vec::new());
+                    for value in 0..300 {
+                        match next(&mut seed, 5) {
+                            0 | 1 if !keys.is_empty() => drop(map.remove(keys.swap_remove(next(&mut seed, keys.len())))),
+                            2 if value % 50 == 0 => map.retain(|_, value| *value % 7 == 0),
+                            _ => keys.push(map.insert(value)),
+                        }
+                        if value % 10 == 0 {
+                            check_walks!(map, seed);
+                        }
+                    }
+                }
+            }
+        };
+    }
+
+    primary_walks!(walks_of_slot_maps, SlotMap);
+    primary_walks!(walks_of_dense_slot_maps, DenseSlotMap);
+    primary_walks!(walks_of_hop_slot_maps, HopSlotMap);
+
+    macro_rules! side_walks {
+        ($test:ident, $map:ident) => {
+            #[test]
+            fn $test() {
+                for mut seed in 0..40 {
+                    let (mut names, mut map) = (SlotMap::new(), $map::new());
+                    let keys: Vec<_> = (0..100).map(|name| names.insert(name)).collect();
+                    for value in 0..300 {
+                        let key = keys[next(&mut seed, keys.len())];
+                        match next(&mut seed, 3) {
+                            0 => drop(map.remove(key)),
+                            _ => drop(map.insert(key, value)),
+                        }
+                        if value % 10 == 0 {
+                            check_walks!(map, seed);
+                        }
+                    }
+                }
+            }
+        };
+    }
+
+    side_walks!(walks_of_secondary_maps, SecondaryMap);
+    side_walks!(walks_of_sparse_secondary_maps, SparseSecondaryMap);
 }

@@ -180,7 +180,8 @@ macro_rules! values {
 /// What `get_disjoint_mut` costs.
 macro_rules! disjoint_cost {
     (SparseSecondaryMap) => {
-        "Constant time for one key. For N > 1 keys, it walks over the map until it has found them: time linear in the capacity, times log N. slotmap's takes time linear in N."
+        "Constant time for one key. For N > 1 keys it walks over the map until it has found them: time linear in the capacity, times log N. \
+         slotmap's takes time linear in N."
     };
     ($map:ident) => {
         "The keys are sorted: time N log N for N keys. slotmap's takes time linear in N."
