@@ -17,3 +17,7 @@ mod scheduler;
 mod scene;
 #[path = "models/world.rs"]
 mod world;
+#[path = "models/primary.rs"]
+mod primary;
+#[path = "models/side.rs"]
+mod side;

@@ -4,6 +4,7 @@
 //! `tests/programs.rs`. With `--cfg without_slotrun` the program slotrun is left out, for compilers before Rust 1.65.
 
 #[macro_use]
+#[allow(unused_imports, dead_code)] // What the programs use of it changes with their sources.
 #[path = "../rt.rs"]
 mod rt;
 

@@ -1,8 +1,8 @@
 //! The keys that a map returns, and those that it must not find.
 
-use super::proved::{Key, KeyData};
-use super::random::Random;
+use slotmap_proved::{Key, KeyData};
 use std::collections::BTreeMap;
+use super::random::Random;
 
 /// The index and the version of a key.
 pub fn parts<K: Key>(key: K) -> (u32, u32) {

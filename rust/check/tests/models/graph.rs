@@ -1,8 +1,9 @@
 //! `graph` and `copy` are a Graph. Its model is a vector of nodes and one of edges, in the order in which they were added.
 
+use slotmap_proved::errors::ReserveError;
+use slotmap_proved::graph::{EdgeError, EdgeKey, Graph, OrderError};
+use slotmap_proved::{DefaultKey, Global, NodeKey};
 use super::common::keys::{parts, Issued};
-use super::common::proved::graph::{EdgeError, EdgeKey, Graph, OrderError};
-use super::common::proved::{DefaultKey, Global, NodeKey, ReserveError};
 use super::common::random::Random;
 use super::common::seeds::each_seed;
 use super::common::{take_first, take_last};

@@ -1,8 +1,9 @@
 //! `list`, `made`, `copy` and `other` are a StableList. Its model is a vector of the cursors with their values.
 
+use slotmap_proved::errors::ReserveError;
+use slotmap_proved::list::{Cursor, PlaceError, PushError, StableList};
+use slotmap_proved::{Global, NodeKey};
 use super::common::keys::Issued;
-use super::common::proved::list::{Cursor, PlaceError, PushError, StableList};
-use super::common::proved::{Global, NodeKey, ReserveError};
 use super::common::random::Random;
 use super::common::seeds::each_seed;
 use super::common::{take_first, take_last};

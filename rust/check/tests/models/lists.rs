@@ -1,9 +1,10 @@
 //! `lists` and `copy` are a StableLists. The model is a vector of the cursors with their values for each list.
 
+use slotmap_proved::errors::ReserveError;
+use slotmap_proved::list::PlaceError;
+use slotmap_proved::lists::{AddError, Cursor, StableLists};
+use slotmap_proved::{Global, NodeKey};
 use super::common::keys::Issued;
-use super::common::proved::list::PlaceError;
-use super::common::proved::lists::{AddError, Cursor, StableLists};
-use super::common::proved::{Global, NodeKey, ReserveError};
 use super::common::random::Random;
 use super::common::seeds::each_seed;
 use super::common::{take_first, take_last};

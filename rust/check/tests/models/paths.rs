@@ -1,13 +1,14 @@
 //! `graph` is a Graph, and the searches are those along its edges: their models relax each edge as often as there are nodes, go
 //! depth first by recursion, and compare what is reachable from where.
 
-use super::common::proved::graph::EdgeKey;
-use super::common::proved::paths::{kosaraju_scc, path_to, post_order, post_order_from, shortest_paths, Costs, PathError, Reached};
-use super::common::proved::{Global, Key, NodeKey, SecondaryMap};
+use slotmap_proved::fallible::SecondaryMap;
+use slotmap_proved::graph::EdgeKey;
+use slotmap_proved::paths::{kosaraju_scc, path_to, post_order, post_order_from, shortest_paths, Costs, PathError, Reached};
+use slotmap_proved::{Global, Key, NodeKey};
+use std::collections::BTreeMap;
 use super::common::random::Random;
 use super::common::seeds::each_seed;
 use super::graph::{Beside, Model};
-use std::collections::BTreeMap;
 
 const SEEDS: u64 = 40;
 /// Graphs of a seed. Each is searched from some nodes.
@@ -185,7 +186,7 @@ fn beside_simple_searches() {
 
 #[test]
 fn of_no_graph() {
-    let graph = super::common::proved::graph::Graph::<NodeKey, u64, u64>::new(Global).expect("memory");
+    let graph = slotmap_proved::graph::Graph::<NodeKey, u64, u64>::new(Global).expect("memory");
     let costs = SecondaryMap::new(Global).expect("memory");
     let paths = shortest_paths(Global, &graph, NodeKey::null(), &costs).expect("memory");
     assert!(paths.is_empty());

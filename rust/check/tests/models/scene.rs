@@ -1,13 +1,14 @@
 //! `scene` and `copy` are a Scene. The model is a vector of nodes, each with its parent, and a list of children for each node.
 
+use slotmap_proved::errors::ReserveError;
+use slotmap_proved::scene::world::{HasTransform, Offset, Transform};
+use slotmap_proved::scene::{AddError, MoveError, ReparentError, Scene, Visit};
+use slotmap_proved::{DefaultKey, Global, Key, NodeKey};
+use std::collections::BTreeMap;
 use super::common::keys::{parts, Issued};
-use super::common::proved::scene::world::{HasTransform, Offset, Transform};
-use super::common::proved::scene::{AddError, MoveError, ReparentError, Scene, Visit};
-use super::common::proved::{DefaultKey, Global, Key, NodeKey, ReserveError};
 use super::common::random::Random;
 use super::common::seeds::each_seed;
 use super::common::{take_first, take_last};
-use std::collections::BTreeMap;
 
 const SEEDS: u64 = 20;
 const CALLS: usize = 10_000;

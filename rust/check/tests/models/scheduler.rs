@@ -1,8 +1,10 @@
 //! `scheduler`, `copy` and `old` are a Scheduler. The model is a vector of jobs in the order in which they are due.
 
+use slotmap_proved::errors::ReserveError;
+use slotmap_proved::fallible::Vec as ProvedVec;
+use slotmap_proved::scheduler::{RescheduleError, ScheduleError, Scheduler};
+use slotmap_proved::{DefaultKey, Global, NodeKey};
 use super::common::keys::{parts, Issued};
-use super::common::proved::scheduler::{RescheduleError, ScheduleError, Scheduler};
-use super::common::proved::{DefaultKey, Global, NodeKey, ProvedVec, ReserveError};
 use super::common::random::Random;
 use super::common::seeds::each_seed;
 

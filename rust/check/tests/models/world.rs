@@ -1,8 +1,10 @@
 //! `world` and `copy` are a World with three tables. The model is a vector of entities in packed order, each with what it has.
 
+use slotmap_proved::entities::{AttachError, CloneTables, First, Fourth, Second, SpawnError, Tables, Third, World};
+use slotmap_proved::errors::ReserveError;
+use slotmap_proved::fallible::{SecondaryMap, SparseSecondaryMap};
+use slotmap_proved::{DefaultKey, Global, NodeKey};
 use super::common::keys::{parts, Issued};
-use super::common::proved::entities::{AttachError, CloneTables, First, Fourth, Second, SpawnError, Tables, Third, World};
-use super::common::proved::{DefaultKey, Global, NodeKey, ReserveError, SecondaryMap, SparseSecondaryMap};
 use super::common::random::Random;
 use super::common::seeds::each_seed;
 
