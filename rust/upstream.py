@@ -14,7 +14,6 @@ MODULES = ("basic", "dense", "hop", "secondary", "sparse_secondary")
 # What has another signature here, each a row of README.md: calls, and traits of types.
 OTHERS = {
     "sparse_secondary SparseSecondaryMap::entry": "the hasher is named",
-    "sparse_secondary SparseSecondaryMap::drain": "the hasher is named",
     "dense IntoIter: Debug": "the type asks for a key",
     "dense IntoIter: Clone": "the type asks for a key",
 }

@@ -50,9 +50,9 @@ macro_rules! content {
             /// assert_eq!(taken, [(key, 5)]);
             /// assert!(map.is_empty());
             /// ```
-            #[doc = clauses!($proved $map drain)]
-            pub fn drain(&mut self) -> Drain<'_, K, V $(, $s)?> {
-                Drain(self.0.drain())
+            #[doc = drain_clauses!($map $proved)]
+            pub fn drain(&mut self) -> Drain<'_, K, V> {
+                Drain(drained!($map, self.0))
             }
 
             /// Returns an iterator that yields each key with a reference to its value.
@@ -153,10 +153,12 @@ macro_rules! content {
         /// It panics if memory runs out; `try_clone` returns an error then. In `clone_from` the copy is made first: for a while there are
         /// both, and if a clone of a value panics, the map is as before.
         impl<K: crate::Key, V: Clone $(, $s: std::hash::BuildHasher + Clone)?> Clone for $map<K, V $(, $s)?> {
+            #[track_caller]
             fn clone(&self) -> Self {
                 $map(crate::maps::in_memory(self.0.clone()))
             }
 
+            #[track_caller]
             fn clone_from(&mut self, source: &Self) {
                 crate::maps::in_memory(self.0.clone_from(&source.0));
             }
@@ -218,6 +220,26 @@ macro_rules! drain_order {
     };
     ($map:ident) => {
         "The pairs come in the order of [`iter`](Self::iter)."
+    };
+}
+
+/// The drain of a proved map, or the one by hand.
+macro_rules! drained {
+    (SparseSecondaryMap, $proved:expr) => {
+        $proved.drain_in_one_walk()
+    };
+    ($map:ident, $proved:expr) => {
+        $proved.drain()
+    };
+}
+
+/// Who vouches for `drain`.
+macro_rules! drain_clauses {
+    (SparseSecondaryMap $proved:ident) => {
+        "This walk is written by hand: safe code, but not proved."
+    };
+    ($map:ident $proved:ident) => {
+        clauses!($proved $map drain)
     };
 }
 

@@ -35,6 +35,7 @@ macro_rules! entries {
             /// assert_eq!(map[key], 5);
             /// ```
             #[doc = clauses!($proved $map entry)]
+            #[track_caller]
             pub fn entry(&mut self, key: K) -> Option<Entry<'_, K, V $(, $s)?>> {
                 crate::maps::in_memory(self.0.entry(key)).map(Entry::over)
             }
@@ -100,6 +101,7 @@ macro_rules! entries {
             /// assert_eq!(map[key], 6);
             /// ```
             #[doc = clauses!($proved Entry or_insert)]
+            #[track_caller]
             pub fn or_insert(self, default: V) -> &'a mut V {
                 $lent(self.into_proved().or_insert(default))
             }
@@ -117,6 +119,7 @@ macro_rules! entries {
             /// }
             /// ```
             #[doc = clauses!($proved Entry or_insert_with)]
+            #[track_caller]
             pub fn or_insert_with<F: FnOnce() -> V>(self, default: F) -> &'a mut V {
                 $lent(self.into_proved().or_insert_with(default))
             }
@@ -152,6 +155,7 @@ macro_rules! entries {
             /// }
             /// ```
             #[doc = clauses!($proved Entry or_default)]
+            #[track_caller]
             pub fn or_default(self) -> &'a mut V
             where
                 V: Default,
@@ -297,6 +301,7 @@ macro_rules! entries {
             /// assert_eq!(map[key], 7);
             /// ```
             #[doc = clauses!($proved VacantEntry insert)]
+            #[track_caller]
             pub fn insert(self, value: V) -> &'a mut V {
                 $lent(self.0.insert(value))
             }

@@ -18,6 +18,7 @@ macro_rules! inserts {
             /// ```
             #[doc = clauses!($proved $map insert)]
             #[inline(always)]
+            #[track_caller]
             pub fn insert(&mut self, value: V) -> K {
                 crate::maps::inserted(self.0.insert(value), concat!(stringify!($map), " is full"))
             }
@@ -53,6 +54,7 @@ macro_rules! inserts {
             /// ```
             #[doc = clauses!($proved $map insert_with_key)]
             #[inline(always)]
+            #[track_caller]
             pub fn insert_with_key<F>(&mut self, f: F) -> K
             where
                 F: FnOnce(K) -> V,
@@ -79,6 +81,7 @@ macro_rules! inserts {
             /// ```
             #[doc = clauses!($proved $map try_insert_with_key)]
             #[inline(always)]
+            #[track_caller]
             pub fn try_insert_with_key<F, E>(&mut self, f: F) -> Result<K, E>
             where
                 F: FnOnce(K) -> Result<V, E>,

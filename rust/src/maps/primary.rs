@@ -9,10 +9,11 @@ macro_rules! primary {
         $(#[$doc])*
         pub struct $map<K: Key, V>(pub(crate) proved::$map<K, V>);
 
-        reading_walks!($map);
+        reading_walks!($map, proved::Drain);
 
         /// Clones the pairs that are left. It panics if memory runs out.
         impl<K: Key, V: Clone> Clone for IntoIter<K, V> {
+            #[track_caller]
             fn clone(&self) -> Self {
                 IntoIter(crate::maps::in_memory(crate::rt::TryClone::clone(&self.0)))
             }
@@ -33,6 +34,7 @@ macro_rules! primary {
             /// assert_eq!(map.len(), 1);
             /// ```
             #[doc = clauses!($proved $map new)]
+            #[track_caller]
             pub fn new() -> Self {
                 Self::with_key()
             }
@@ -49,6 +51,7 @@ macro_rules! primary {
             /// assert!(map.capacity() >= 10);
             /// ```
             #[doc = clauses!($proved $map with_capacity)]
+            #[track_caller]
             pub fn with_capacity(capacity: usize) -> Self {
                 Self::with_capacity_and_key(capacity)
             }
@@ -70,6 +73,7 @@ macro_rules! primary {
             /// assert_eq!(map[key], "Basel");
             /// ```
             #[doc = clauses!($proved $map with_key)]
+            #[track_caller]
             pub fn with_key() -> Self {
                 Self::with_capacity_and_key(0)
             }
@@ -87,6 +91,7 @@ macro_rules! primary {
             /// assert!(map.capacity() >= 10);
             /// ```
             #[doc = clauses!($proved $map with_capacity_and_key)]
+            #[track_caller]
             pub fn with_capacity_and_key(capacity: usize) -> Self {
                 crate::maps::with_room(Self::try_with_capacity_and_key(capacity))
             }
@@ -143,7 +148,7 @@ macro_rules! primary {
 
             /// Makes room for this many more values, as [`reserve`](Self::reserve) does, or fails where that panics.
             ///
-            /// The error is that of Rust's collections. It says whether the number was too great or memory ran out.
+            /// The error is that of Rust's collections. On 64 bits it says whether the number was too great or memory ran out.
             ///
             /// ```
             #[doc = held!($map)]
@@ -177,6 +182,7 @@ macro_rules! primary {
 
         /// An empty map. It panics if memory runs out.
         impl<K: Key, V> Default for $map<K, V> {
+            #[track_caller]
             fn default() -> Self {
                 Self::with_key()
             }

@@ -21,7 +21,7 @@ use crate::{Global, Key};
 /// ```
 pub struct SecondaryMap<K: Key, V>(pub(crate) proved::SecondaryMap<K, V>);
 
-reading_walks!(SecondaryMap);
+reading_walks!(SecondaryMap, proved::Drain);
 lending_walks!(proved::lent::IterMut);
 values!(SecondaryMap, slotmap_secondary, get_disjoint_mut, "invalid SecondaryMap key used");
 content!(SecondaryMap, slotmap_secondary);
@@ -43,6 +43,7 @@ impl<K: Key, V> SecondaryMap<K, V> {
     /// assert_eq!(map.len(), 1);
     /// ```
     #[doc = clauses!(slotmap_secondary SecondaryMap new)]
+    #[track_caller]
     pub fn new() -> Self {
         Self::with_capacity(0)
     }
@@ -60,6 +61,7 @@ impl<K: Key, V> SecondaryMap<K, V> {
     /// assert!(map.capacity() >= 10);
     /// ```
     #[doc = clauses!(slotmap_secondary SecondaryMap with_capacity)]
+    #[track_caller]
     pub fn with_capacity(capacity: usize) -> Self {
         crate::maps::with_room(Self::try_with_capacity(capacity))
     }
@@ -140,6 +142,7 @@ impl<K: Key, V> SecondaryMap<K, V> {
 
 /// An empty map. It panics if memory runs out.
 impl<K: Key, V> Default for SecondaryMap<K, V> {
+    #[track_caller]
     fn default() -> Self {
         Self::new()
     }

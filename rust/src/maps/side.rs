@@ -22,6 +22,7 @@ macro_rules! side {
             /// ```
             #[doc = clauses!($proved $map insert)]
             #[inline(always)]
+            #[track_caller]
             pub fn insert(&mut self, key: K, value: V) -> Option<V> {
                 crate::maps::in_memory(self.0.insert(key, value))
             }
@@ -56,6 +57,7 @@ macro_rules! side {
 
         /// Puts the pairs one after the other, as `insert` does. If memory runs out it panics, and the pairs before are in the map.
         impl<K: crate::Key, V $(, $s: std::hash::BuildHasher)?> Extend<(K, V)> for $map<K, V $(, $s)?> {
+            #[track_caller]
             fn extend<I: IntoIterator<Item = (K, V)>>(&mut self, pairs: I) {
                 for (key, value) in pairs {
                     self.insert(key, value);
@@ -65,6 +67,7 @@ macro_rules! side {
 
         /// Puts the pairs one after the other, as `insert` does. If memory runs out it panics, and the pairs before are in the map.
         impl<'a, K: crate::Key, V: 'a + Copy $(, $s: std::hash::BuildHasher)?> Extend<(K, &'a V)> for $map<K, V $(, $s)?> {
+            #[track_caller]
             fn extend<I: IntoIterator<Item = (K, &'a V)>>(&mut self, pairs: I) {
                 for (key, value) in pairs {
                     self.insert(key, *value);
@@ -74,6 +77,7 @@ macro_rules! side {
 
         /// A map of these pairs, put one after the other. It panics if memory runs out.
         impl<K: crate::Key, V $(, $s: std::hash::BuildHasher + Default)?> FromIterator<(K, V)> for $map<K, V $(, $s)?> {
+            #[track_caller]
             fn from_iter<I: IntoIterator<Item = (K, V)>>(pairs: I) -> Self {
                 let mut map = Self::default();
                 map.extend(pairs);

@@ -11,7 +11,7 @@ use std::hash::BuildHasher;
 /// that was put there. Putting, removing and looking up take constant time on average, as Rust's hash map does. The pairs come in the order
 /// of that map.
 ///
-/// Its entries and its [`Drain`] name the hasher's type too, unless it is the default one. In slotmap they don't.
+/// Its entries name the hasher's type too, unless it is the default one. In slotmap they don't.
 ///
 /// ```
 /// use slotmap_proved::{SlotMap, SparseSecondaryMap};
@@ -24,7 +24,7 @@ use std::hash::BuildHasher;
 /// ```
 pub struct SparseSecondaryMap<K: Key, V, S: BuildHasher = RandomState>(pub(crate) proved::SparseSecondaryMap<K, V, S>);
 
-reading_walks!(SparseSecondaryMap, S: BuildHasher = RandomState);
+reading_walks!(SparseSecondaryMap, proved::lent::Drain);
 lending_walks!(proved::lent::IterMut);
 values!(SparseSecondaryMap, slotmap_sparse, get_disjoint_mut, "invalid SparseSecondaryMap key used", S);
 content!(SparseSecondaryMap, slotmap_sparse, S);
@@ -60,6 +60,7 @@ impl<K: Key, V> SparseSecondaryMap<K, V> {
     /// assert!(map.capacity() >= 10);
     /// ```
     #[doc = clauses!(slotmap_sparse SparseSecondaryMap with_capacity)]
+    #[track_caller]
     pub fn with_capacity(capacity: usize) -> Self {
         Self::with_capacity_and_hasher(capacity, RandomState::new())
     }
@@ -95,6 +96,7 @@ impl<K: Key, V, S: BuildHasher> SparseSecondaryMap<K, V, S> {
     /// assert!(map.capacity() >= 10);
     /// ```
     #[doc = clauses!(slotmap_sparse SparseSecondaryMap with_capacity_and_hasher)]
+    #[track_caller]
     pub fn with_capacity_and_hasher(capacity: usize, hash_builder: S) -> Self {
         crate::maps::with_room(Self::try_with_capacity_and_hasher(capacity, hash_builder))
     }

@@ -46,7 +46,7 @@ macro_rules! clones {
 
 /// The iterators of a map that only read, and those that take the pairs out.
 macro_rules! reading_walks {
-    ($map:ident $(, $s:ident: $bound:path = $default:path)?) => {
+    ($map:ident, $($drain:tt)+) => {
         walk!(
             /// Yields each key with a reference to its value; made by `iter`.
             Iter<'a, K, V>(proved::Iter<'a, K, V>) -> (K, &'a V));
@@ -59,12 +59,23 @@ macro_rules! reading_walks {
         walk!(
             /// Takes each pair out of the map; made by `drain`.
             ///
-            /// What is left when it is dropped is removed then. If it is forgotten, as by [`std::mem::forget`], what is left stays in the map.
-            Drain<'a, K, V $(, $s: $bound = $default)?>(proved::Drain<'a, K, V $(, $s)?>) -> (K, V));
+            /// What is left when it is dropped is removed then.
+            #[doc = forgotten!($map)]
+            Drain<'a, K, V>($($drain)+<'a, K, V>) -> (K, V));
         walk!(
             /// Yields each pair of a map that is taken apart; made by `into_iter`.
             IntoIter<K, V>(proved::IntoIter<K, V>) -> (K, V));
         clones!(Iter Keys Values);
+    };
+}
+
+/// What becomes of a map whose drain is forgotten.
+macro_rules! forgotten {
+    (SparseSecondaryMap) => {
+        "If it is forgotten, as by [`std::mem::forget`], the map is empty, and its memory is lost."
+    };
+    ($map:ident) => {
+        "If it is forgotten, as by [`std::mem::forget`], what is left stays in the map."
     };
 }
 
