@@ -28,7 +28,7 @@ if [ "$version" -lt 65 ]; then
     flags+=('-Zcrate-attr=feature(let_else)' --cfg without_slotrun)
 fi
 features=()
-for feature in structures runs json internals; do
+for feature in std structures runs json internals; do
     features+=(--cfg "feature=\"$feature\"")
 done
 

@@ -42,8 +42,8 @@ def generics_of(source, item):
 
 def impl_text(generics, trait, name, names, body):
     """An impl of a trait with one function, `fmt`."""
-    head = f"impl{generics} std::fmt::{trait} for {name}{names} {{\n"
-    return f"{head}    fn fmt(&self, f: &mut std::fmt::Formatter<'_>) -> std::fmt::Result {{\n        {body}\n    }}\n}}\n"
+    head = f"impl{generics} core::fmt::{trait} for {name}{names} {{\n"
+    return f"{head}    fn fmt(&self, f: &mut core::fmt::Formatter<'_>) -> core::fmt::Result {{\n        {body}\n    }}\n}}\n"
 
 
 def match_text(arms, write):
@@ -108,15 +108,16 @@ def variants(source, item):
 
 
 def error_impls(source, item):
-    """Display and Error of a type that derives `Error`."""
+    """Display and Error of a type that derives `Error`. The trait `Error` is in std alone where Rust is older than 1.81."""
     generics, names = generics_of(source, item)
     bound = next((it.argument for it in item.attributes if it.name == "error_bound"), None)
-    shown = f"<{bound.replace('Display', 'std::fmt::Display')}>" if bound else generics
+    shown = f"<{bound.replace('Display', 'core::fmt::Display')}>" if bound else generics
     if item.kind == "struct":
         body = f"f.write_str({struct_message(item)})"
     else:
         body = match_text([arm_of(item, it) for it in variants(source, item)], lambda said: f"write!(f, {said})")
-    return [impl_text(shown, "Display", item.name, names, body), f"impl{shown} std::error::Error for {item.name}{names} {{}}\n"]
+    error = f'#[cfg(feature = "std")]\nimpl{shown} std::error::Error for {item.name}{names} {{}}\n'
+    return [impl_text(shown, "Display", item.name, names, body), error]
 
 
 def struct_message(item):

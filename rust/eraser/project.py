@@ -12,7 +12,7 @@ CRATES = os.path.join(TOP, "crates")
 # Libraries, each after those that it stands on, with the feature of the package that it needs.
 LIBRARIES = {
     "slotmap_core": "", "slotmap_slots": "", "slotmap_basic": "", "slotmap_dense": "", "slotmap_hop": "", "slotmap_secondary": "",
-    "slotmap_sparse": "", "slotmap_run": "runs", "slotmap_json": "json", "slotmap": "", "slotmap_links": "structures",
+    "slotmap_sparse": "std", "slotmap_run": "runs", "slotmap_json": "json", "slotmap": "", "slotmap_links": "structures",
     "slotmap_bounded": "structures", "slotmap_list": "structures", "slotmap_lists": "structures", "slotmap_graph": "structures",
     "slotmap_paths": "structures", "slotmap_scene": "structures", "slotmap_entities": "structures", "slotmap_scheduler": "structures",
 }
@@ -21,6 +21,16 @@ PROGRAMS = ("slotmap_rows", "primary_rows", "secondary_rows", "joined_rows", "sl
 # Crates of Rattle that are no part of either.
 NOT_ERASED = {"map_guards", "slotdemo", "slotmap_c", "slotmap_examples", "slotmap_tests", "structure_examples", "structure_guards"}
 LIBRARY_TREE, PROGRAM_TREE = "rust/src/proved", "rust/check/src/programs"
+
+
+def needs(feature, *parts):
+    """Patches that put parts of a file under a feature of the package."""
+    return [(part, f'#[cfg(feature = "{feature}")]\n{part}') for part in parts]
+
+
+# An import whose last name needs std, since that map is over a hash map.
+SPARSE_IMPORT = ("SecondaryMap, SparseSecondaryMap};",
+                 'SecondaryMap};\n#[cfg(feature = "std")]\nuse crate::proved::slotmap::SparseSecondaryMap;')
 
 # What Rust wants written otherwise, in the erased text. Each stands there once.
 PATCHES = {
@@ -32,9 +42,18 @@ PATCHES = {
     ("slotmap_rows", "lib"): [("mod call;", "pub use crate::{looked, written};\nmod call;")],
     # The features that these names need.
     ("slotmap", "lib"): [
-        (f"pub use crate::proved::{name}", f'#[cfg(feature = "{feature}")]\npub use crate::proved::{name}')
-        for name, feature in (("slotmap_json", "json"), ("slotmap_run::joined", "runs"), ("slotmap_run::primary", "runs"),
-                              ("slotmap_run::secondary", "runs"))
+        *needs("json", "pub use crate::proved::slotmap_json"),
+        *needs("runs", *(f"pub use crate::proved::slotmap_run::{name}" for name in ("joined", "primary", "secondary"))),
+        *needs("std", "pub mod sparse_secondary {", "pub use crate::proved::slotmap_sparse::SparseSecondaryMap;"),
+    ],
+    # Without std there is no sparse map to be a table.
+    ("slotmap_entities", "clone"): [
+        SPARSE_IMPORT, *needs("std", "impl<K: Key, C: Clone> CloneTable<K> for SparseSecondaryMap<K, C> {"),
+    ],
+    ("slotmap_entities", "tables"): [
+        SPARSE_IMPORT,
+        *needs("std", "impl<K: Key, C> Table<K> for SparseSecondaryMap<K, C> {",
+               "impl<K: Key, C> crate::sealed::Table<K> for SparseSecondaryMap<K, C> {}"),
     ],
 }
 # Files whose functions src/rt has, written by hand: their names alone are erased.

@@ -48,6 +48,8 @@
 #![warn(missing_docs)]
 #![allow(unexpected_cfgs)]
 
+extern crate alloc;
+
 #[macro_use]
 mod clauses;
 

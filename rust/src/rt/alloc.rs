@@ -22,22 +22,25 @@ impl<T> From<AllocFailed<T>> for AllocError {
     }
 }
 
-impl ::std::fmt::Display for AllocError {
-    fn fmt(&self, f: &mut ::std::fmt::Formatter<'_>) -> ::std::fmt::Result {
+impl ::core::fmt::Display for AllocError {
+    fn fmt(&self, f: &mut ::core::fmt::Formatter<'_>) -> ::core::fmt::Result {
         f.write_str("out of memory")
     }
 }
 
+#[cfg(feature = "std")]
 impl ::std::error::Error for AllocError {}
 
-impl<T> ::std::fmt::Display for AllocFailed<T> {
-    fn fmt(&self, f: &mut ::std::fmt::Formatter<'_>) -> ::std::fmt::Result {
+impl<T> ::core::fmt::Display for AllocFailed<T> {
+    fn fmt(&self, f: &mut ::core::fmt::Formatter<'_>) -> ::core::fmt::Result {
         f.write_str("out of memory")
     }
 }
 
-impl<T: ::std::fmt::Debug> ::std::error::Error for AllocFailed<T> {}
+#[cfg(feature = "std")]
+impl<T: ::core::fmt::Debug> ::std::error::Error for AllocFailed<T> {}
 
+#[cfg(feature = "std")]
 impl From<AllocError> for ::std::io::Error {
     /// For `?` in the programs of the tests.
     fn from(_: AllocError) -> Self {
@@ -45,6 +48,7 @@ impl From<AllocError> for ::std::io::Error {
     }
 }
 
+#[cfg(feature = "std")]
 impl<T> From<AllocFailed<T>> for ::std::io::Error {
     /// For `?` in the programs of the tests.
     fn from(_: AllocFailed<T>) -> Self {

@@ -1,7 +1,7 @@
 //! Hashers of Rattle that are not Rust's.
 
-pub use ::std::hash::{BuildHasher, Hash, Hasher};
-use ::std::marker::PhantomData;
+pub use ::core::hash::{BuildHasher, Hash, Hasher};
+use ::core::marker::PhantomData;
 
 /// The hasher of a map that names no other. Its seed is fixed.
 ///
@@ -58,8 +58,8 @@ impl<H> Default for BuildHasherDefault<H> {
     }
 }
 
-impl<H> ::std::fmt::Debug for BuildHasherDefault<H> {
-    fn fmt(&self, f: &mut ::std::fmt::Formatter<'_>) -> ::std::fmt::Result {
+impl<H> ::core::fmt::Debug for BuildHasherDefault<H> {
+    fn fmt(&self, f: &mut ::core::fmt::Formatter<'_>) -> ::core::fmt::Result {
         f.write_str("BuildHasherDefault")
     }
 }

@@ -87,15 +87,22 @@ impl From<Vec<Value>> for Value {
     }
 }
 
+/// What `json!` names: it may be called where there is no prelude of std.
+#[doc(hidden)]
+pub mod __private {
+    pub use std::string::String;
+    pub use std::vec;
+}
+
 /// An array, an object, or any value that `From` makes.
 #[macro_export]
 macro_rules! json {
-    ([$($value:tt),*]) => { $crate::Value::Array(vec![$($crate::json!($value)),*]) };
+    ([$($value:tt),*]) => { $crate::Value::Array($crate::__private::vec![$($crate::json!($value)),*]) };
     ({$($name:literal: $value:tt),*}) => {
-        $crate::Value::object(vec![$(($name.to_string(), $crate::json!($value))),*])
+        $crate::Value::object($crate::__private::vec![$(($crate::__private::String::from($name), $crate::json!($value))),*])
     };
     ({$($name:literal: $value:expr),* $(,)?}) => {
-        $crate::Value::object(vec![$(($name.to_string(), $crate::Value::from($value))),*])
+        $crate::Value::object($crate::__private::vec![$(($crate::__private::String::from($name), $crate::Value::from($value))),*])
     };
     (null) => { $crate::Value::Null };
     ($value:expr) => { $crate::Value::from($value) };

@@ -42,6 +42,7 @@ pub mod secondary {
 }
 
 /// The iterators and the entries of [`SparseSecondaryMap`], and its default hasher.
+#[cfg(feature = "std")]
 pub mod sparse_secondary {
     pub use crate::proved::slotmap_sparse::{
         DefaultHasher, Drain, Entry, IntoIter, Iter, Keys, OccupiedEntry, SparseSecondaryMap,
@@ -74,4 +75,5 @@ pub use crate::proved::slotmap_run::primary::{run, run_detaching, run_detaching_
 #[cfg(feature = "runs")]
 pub use crate::proved::slotmap_run::secondary::run_secondary;
 pub use crate::proved::slotmap_secondary::SecondaryMap;
+#[cfg(feature = "std")]
 pub use crate::proved::slotmap_sparse::SparseSecondaryMap;

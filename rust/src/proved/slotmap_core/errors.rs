@@ -423,16 +423,17 @@ impl<T> From<AllocFailed<T>> for JsonError {
     }
 }
 
-impl std::fmt::Display for OutOfMemory {
-    fn fmt(&self, f: &mut std::fmt::Formatter<'_>) -> std::fmt::Result {
+impl core::fmt::Display for OutOfMemory {
+    fn fmt(&self, f: &mut core::fmt::Formatter<'_>) -> core::fmt::Result {
         f.write_str("out of memory")
     }
 }
 
+#[cfg(feature = "std")]
 impl std::error::Error for OutOfMemory {}
 
-impl<V> std::fmt::Debug for InsertError<V> {
-    fn fmt(&self, f: &mut std::fmt::Formatter<'_>) -> std::fmt::Result {
+impl<V> core::fmt::Debug for InsertError<V> {
+    fn fmt(&self, f: &mut core::fmt::Formatter<'_>) -> core::fmt::Result {
         match self {
             InsertError::Full(..) => f.write_str("Full(..)"),
             InsertError::Memory(..) => f.write_str("Memory(..)"),
@@ -440,8 +441,8 @@ impl<V> std::fmt::Debug for InsertError<V> {
     }
 }
 
-impl<V> std::fmt::Display for InsertError<V> {
-    fn fmt(&self, f: &mut std::fmt::Formatter<'_>) -> std::fmt::Result {
+impl<V> core::fmt::Display for InsertError<V> {
+    fn fmt(&self, f: &mut core::fmt::Formatter<'_>) -> core::fmt::Result {
         match self {
             InsertError::Full(_) => write!(f, "full"),
             InsertError::Memory(_) => write!(f, "out of memory"),
@@ -449,10 +450,11 @@ impl<V> std::fmt::Display for InsertError<V> {
     }
 }
 
+#[cfg(feature = "std")]
 impl<V> std::error::Error for InsertError<V> {}
 
-impl std::fmt::Display for InsertWithError {
-    fn fmt(&self, f: &mut std::fmt::Formatter<'_>) -> std::fmt::Result {
+impl core::fmt::Display for InsertWithError {
+    fn fmt(&self, f: &mut core::fmt::Formatter<'_>) -> core::fmt::Result {
         match self {
             InsertWithError::Full => write!(f, "full"),
             InsertWithError::Memory => write!(f, "out of memory"),
@@ -460,10 +462,11 @@ impl std::fmt::Display for InsertWithError {
     }
 }
 
+#[cfg(feature = "std")]
 impl std::error::Error for InsertWithError {}
 
-impl<E> std::fmt::Debug for TryInsertError<E> {
-    fn fmt(&self, f: &mut std::fmt::Formatter<'_>) -> std::fmt::Result {
+impl<E> core::fmt::Debug for TryInsertError<E> {
+    fn fmt(&self, f: &mut core::fmt::Formatter<'_>) -> core::fmt::Result {
         match self {
             TryInsertError::Full => f.write_str("Full"),
             TryInsertError::Memory => f.write_str("Memory"),
@@ -472,8 +475,8 @@ impl<E> std::fmt::Debug for TryInsertError<E> {
     }
 }
 
-impl<E: std::fmt::Display> std::fmt::Display for TryInsertError<E> {
-    fn fmt(&self, f: &mut std::fmt::Formatter<'_>) -> std::fmt::Result {
+impl<E: core::fmt::Display> core::fmt::Display for TryInsertError<E> {
+    fn fmt(&self, f: &mut core::fmt::Formatter<'_>) -> core::fmt::Result {
         match self {
             TryInsertError::Full => write!(f, "full"),
             TryInsertError::Memory => write!(f, "out of memory"),
@@ -482,10 +485,11 @@ impl<E: std::fmt::Display> std::fmt::Display for TryInsertError<E> {
     }
 }
 
-impl<E: std::fmt::Display> std::error::Error for TryInsertError<E> {}
+#[cfg(feature = "std")]
+impl<E: core::fmt::Display> std::error::Error for TryInsertError<E> {}
 
-impl<V> std::fmt::Debug for ReattachError<V> {
-    fn fmt(&self, f: &mut std::fmt::Formatter<'_>) -> std::fmt::Result {
+impl<V> core::fmt::Debug for ReattachError<V> {
+    fn fmt(&self, f: &mut core::fmt::Formatter<'_>) -> core::fmt::Result {
         match self {
             ReattachError::NotDetached(..) => f.write_str("NotDetached(..)"),
             ReattachError::Memory(..) => f.write_str("Memory(..)"),
@@ -493,8 +497,8 @@ impl<V> std::fmt::Debug for ReattachError<V> {
     }
 }
 
-impl<V> std::fmt::Display for ReattachError<V> {
-    fn fmt(&self, f: &mut std::fmt::Formatter<'_>) -> std::fmt::Result {
+impl<V> core::fmt::Display for ReattachError<V> {
+    fn fmt(&self, f: &mut core::fmt::Formatter<'_>) -> core::fmt::Result {
         match self {
             ReattachError::NotDetached(_) => write!(f, "not detached"),
             ReattachError::Memory(_) => write!(f, "out of memory"),
@@ -502,10 +506,11 @@ impl<V> std::fmt::Display for ReattachError<V> {
     }
 }
 
+#[cfg(feature = "std")]
 impl<V> std::error::Error for ReattachError<V> {}
 
-impl std::fmt::Display for ReserveError {
-    fn fmt(&self, f: &mut std::fmt::Formatter<'_>) -> std::fmt::Result {
+impl core::fmt::Display for ReserveError {
+    fn fmt(&self, f: &mut core::fmt::Formatter<'_>) -> core::fmt::Result {
         match self {
             ReserveError::TooGreat => write!(f, "too great"),
             ReserveError::Memory => write!(f, "out of memory"),
@@ -513,24 +518,26 @@ impl std::fmt::Display for ReserveError {
     }
 }
 
+#[cfg(feature = "std")]
 impl std::error::Error for ReserveError {}
 
-impl<V> std::fmt::Debug for PutError<V> {
-    fn fmt(&self, f: &mut std::fmt::Formatter<'_>) -> std::fmt::Result {
+impl<V> core::fmt::Debug for PutError<V> {
+    fn fmt(&self, f: &mut core::fmt::Formatter<'_>) -> core::fmt::Result {
         f.write_str("PutError(..)")
     }
 }
 
-impl<V> std::fmt::Display for PutError<V> {
-    fn fmt(&self, f: &mut std::fmt::Formatter<'_>) -> std::fmt::Result {
+impl<V> core::fmt::Display for PutError<V> {
+    fn fmt(&self, f: &mut core::fmt::Formatter<'_>) -> core::fmt::Result {
         f.write_str("out of memory")
     }
 }
 
+#[cfg(feature = "std")]
 impl<V> std::error::Error for PutError<V> {}
 
-impl std::fmt::Display for SlotsError {
-    fn fmt(&self, f: &mut std::fmt::Formatter<'_>) -> std::fmt::Result {
+impl core::fmt::Display for SlotsError {
+    fn fmt(&self, f: &mut core::fmt::Formatter<'_>) -> core::fmt::Result {
         match self {
             SlotsError::TooMany => write!(f, "too many"),
             SlotsError::FirstNotEmpty => write!(f, "first not empty"),
@@ -540,10 +547,11 @@ impl std::fmt::Display for SlotsError {
     }
 }
 
+#[cfg(feature = "std")]
 impl std::error::Error for SlotsError {}
 
-impl std::fmt::Display for JsonError {
-    fn fmt(&self, f: &mut std::fmt::Formatter<'_>) -> std::fmt::Result {
+impl core::fmt::Display for JsonError {
+    fn fmt(&self, f: &mut core::fmt::Formatter<'_>) -> core::fmt::Result {
         match self {
             JsonError::Shape => write!(f, "shape"),
             JsonError::Memory => write!(f, "out of memory"),
@@ -551,4 +559,5 @@ impl std::fmt::Display for JsonError {
     }
 }
 
+#[cfg(feature = "std")]
 impl std::error::Error for JsonError {}

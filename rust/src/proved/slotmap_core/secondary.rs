@@ -356,8 +356,8 @@ pub enum SecondaryReply<V, R> {
     Len(usize),
 }
 
-impl std::fmt::Display for NoEntry {
-    fn fmt(&self, f: &mut std::fmt::Formatter<'_>) -> std::fmt::Result {
+impl core::fmt::Display for NoEntry {
+    fn fmt(&self, f: &mut core::fmt::Formatter<'_>) -> core::fmt::Result {
         match self {
             NoEntry::Older => write!(f, "no entry"),
             NoEntry::Memory => write!(f, "out of memory"),
@@ -365,4 +365,5 @@ impl std::fmt::Display for NoEntry {
     }
 }
 
+#[cfg(feature = "std")]
 impl std::error::Error for NoEntry {}

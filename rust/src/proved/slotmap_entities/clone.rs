@@ -5,7 +5,9 @@
 use crate::rt::prelude::*;
 
 use crate::proved::slotmap_entities::{First, Kind, Table, Tables, Then, World};
-use crate::proved::slotmap::{Key, SecondaryMap, SparseSecondaryMap};
+use crate::proved::slotmap::{Key, SecondaryMap};
+#[cfg(feature = "std")]
+use crate::proved::slotmap::SparseSecondaryMap;
 use crate::rt::std::alloc::AllocError;
 
 /// A table whose components can be cloned.
@@ -58,6 +60,7 @@ impl<K: Key, C: Clone> CloneTable<K> for SecondaryMap<K, C> {
     }
 }
 
+#[cfg(feature = "std")]
 impl<K: Key, C: Clone> CloneTable<K> for SparseSecondaryMap<K, C> {
     #[inline]
     fn clone_table(&self) -> Result<Self, AllocError> {

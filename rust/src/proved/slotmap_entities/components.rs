@@ -291,8 +291,8 @@ impl<K: Key, E, T: Tables<K>> World<K, E, T> {
     }
 }
 
-impl<C> std::fmt::Debug for AttachError<C> {
-    fn fmt(&self, f: &mut std::fmt::Formatter<'_>) -> std::fmt::Result {
+impl<C> core::fmt::Debug for AttachError<C> {
+    fn fmt(&self, f: &mut core::fmt::Formatter<'_>) -> core::fmt::Result {
         match self {
             AttachError::Gone(..) => f.write_str("Gone(..)"),
             AttachError::Memory(..) => f.write_str("Memory(..)"),
@@ -300,8 +300,8 @@ impl<C> std::fmt::Debug for AttachError<C> {
     }
 }
 
-impl<C> std::fmt::Display for AttachError<C> {
-    fn fmt(&self, f: &mut std::fmt::Formatter<'_>) -> std::fmt::Result {
+impl<C> core::fmt::Display for AttachError<C> {
+    fn fmt(&self, f: &mut core::fmt::Formatter<'_>) -> core::fmt::Result {
         match self {
             AttachError::Gone(_) => write!(f, "the entity is gone"),
             AttachError::Memory(_) => write!(f, "out of memory"),
@@ -309,4 +309,5 @@ impl<C> std::fmt::Display for AttachError<C> {
     }
 }
 
+#[cfg(feature = "std")]
 impl<C> std::error::Error for AttachError<C> {}

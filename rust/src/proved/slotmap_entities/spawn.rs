@@ -105,8 +105,8 @@ impl<K: Key, E, T: Tables<K>> World<K, E, T> {
     }
 }
 
-impl<E, C> std::fmt::Debug for SpawnError<E, C> {
-    fn fmt(&self, f: &mut std::fmt::Formatter<'_>) -> std::fmt::Result {
+impl<E, C> core::fmt::Debug for SpawnError<E, C> {
+    fn fmt(&self, f: &mut core::fmt::Formatter<'_>) -> core::fmt::Result {
         match self {
             SpawnError::Full(..) => f.write_str("Full(..)"),
             SpawnError::Memory(..) => f.write_str("Memory(..)"),
@@ -114,8 +114,8 @@ impl<E, C> std::fmt::Debug for SpawnError<E, C> {
     }
 }
 
-impl<E, C> std::fmt::Display for SpawnError<E, C> {
-    fn fmt(&self, f: &mut std::fmt::Formatter<'_>) -> std::fmt::Result {
+impl<E, C> core::fmt::Display for SpawnError<E, C> {
+    fn fmt(&self, f: &mut core::fmt::Formatter<'_>) -> core::fmt::Result {
         match self {
             SpawnError::Full(_, _) => write!(f, "no key is left for an entity"),
             SpawnError::Memory(_, _) => write!(f, "out of memory"),
@@ -123,4 +123,5 @@ impl<E, C> std::fmt::Display for SpawnError<E, C> {
     }
 }
 
+#[cfg(feature = "std")]
 impl<E, C> std::error::Error for SpawnError<E, C> {}

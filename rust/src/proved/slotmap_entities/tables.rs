@@ -4,7 +4,9 @@
 #[allow(unused_imports)]
 use crate::rt::prelude::*;
 
-use crate::proved::slotmap::{Key, PutError, ReserveError, SecondaryMap, SparseSecondaryMap};
+use crate::proved::slotmap::{Key, PutError, ReserveError, SecondaryMap};
+#[cfg(feature = "std")]
+use crate::proved::slotmap::SparseSecondaryMap;
 use crate::rt::std::alloc::Global;
 
 /// A table of components of one kind: a `SecondaryMap` or a `SparseSecondaryMap`.
@@ -397,6 +399,7 @@ impl<K: Key, C> Table<K> for SecondaryMap<K, C> {
     }
 }
 
+#[cfg(feature = "std")]
 impl<K: Key, C> Table<K> for SparseSecondaryMap<K, C> {
     type Component = C;
 
@@ -451,4 +454,5 @@ impl<K: Key, C> Table<K> for SparseSecondaryMap<K, C> {
 
 impl<K: Key, C> crate::sealed::Table<K> for SecondaryMap<K, C> {}
 
+#[cfg(feature = "std")]
 impl<K: Key, C> crate::sealed::Table<K> for SparseSecondaryMap<K, C> {}

@@ -584,8 +584,8 @@ impl<K: Key, N, E> Graph<K, N, E> {
     }
 }
 
-impl<E> std::fmt::Debug for EdgeError<E> {
-    fn fmt(&self, f: &mut std::fmt::Formatter<'_>) -> std::fmt::Result {
+impl<E> core::fmt::Debug for EdgeError<E> {
+    fn fmt(&self, f: &mut core::fmt::Formatter<'_>) -> core::fmt::Result {
         match self {
             EdgeError::Gone(..) => f.write_str("Gone(..)"),
             EdgeError::Full(..) => f.write_str("Full(..)"),
@@ -594,8 +594,8 @@ impl<E> std::fmt::Debug for EdgeError<E> {
     }
 }
 
-impl<E> std::fmt::Display for EdgeError<E> {
-    fn fmt(&self, f: &mut std::fmt::Formatter<'_>) -> std::fmt::Result {
+impl<E> core::fmt::Display for EdgeError<E> {
+    fn fmt(&self, f: &mut core::fmt::Formatter<'_>) -> core::fmt::Result {
         match self {
             EdgeError::Gone(_) => write!(f, "a node is gone"),
             EdgeError::Full(_) => write!(f, "the graph is full"),
@@ -604,4 +604,5 @@ impl<E> std::fmt::Display for EdgeError<E> {
     }
 }
 
+#[cfg(feature = "std")]
 impl<E> std::error::Error for EdgeError<E> {}

@@ -245,8 +245,8 @@ impl<K: Key, N, E> Graph<K, N, E> {
     }
 }
 
-impl std::fmt::Display for OrderError {
-    fn fmt(&self, f: &mut std::fmt::Formatter<'_>) -> std::fmt::Result {
+impl core::fmt::Display for OrderError {
+    fn fmt(&self, f: &mut core::fmt::Formatter<'_>) -> core::fmt::Result {
         match self {
             OrderError::Cycle(_) => write!(f, "the graph has a cycle"),
             OrderError::Memory => write!(f, "out of memory"),
@@ -254,4 +254,5 @@ impl std::fmt::Display for OrderError {
     }
 }
 
+#[cfg(feature = "std")]
 impl std::error::Error for OrderError {}

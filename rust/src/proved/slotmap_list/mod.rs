@@ -597,8 +597,8 @@ impl<K: Key, T> Index<K> for StableList<K, T> {
     }
 }
 
-impl<T> std::fmt::Debug for PushError<T> {
-    fn fmt(&self, f: &mut std::fmt::Formatter<'_>) -> std::fmt::Result {
+impl<T> core::fmt::Debug for PushError<T> {
+    fn fmt(&self, f: &mut core::fmt::Formatter<'_>) -> core::fmt::Result {
         match self {
             PushError::Full(..) => f.write_str("Full(..)"),
             PushError::Memory(..) => f.write_str("Memory(..)"),
@@ -606,8 +606,8 @@ impl<T> std::fmt::Debug for PushError<T> {
     }
 }
 
-impl<T> std::fmt::Display for PushError<T> {
-    fn fmt(&self, f: &mut std::fmt::Formatter<'_>) -> std::fmt::Result {
+impl<T> core::fmt::Display for PushError<T> {
+    fn fmt(&self, f: &mut core::fmt::Formatter<'_>) -> core::fmt::Result {
         match self {
             PushError::Full(_) => write!(f, "the list is full"),
             PushError::Memory(_) => write!(f, "out of memory"),
@@ -615,10 +615,11 @@ impl<T> std::fmt::Display for PushError<T> {
     }
 }
 
+#[cfg(feature = "std")]
 impl<T> std::error::Error for PushError<T> {}
 
-impl<T> std::fmt::Debug for PlaceError<T> {
-    fn fmt(&self, f: &mut std::fmt::Formatter<'_>) -> std::fmt::Result {
+impl<T> core::fmt::Debug for PlaceError<T> {
+    fn fmt(&self, f: &mut core::fmt::Formatter<'_>) -> core::fmt::Result {
         match self {
             PlaceError::Gone(..) => f.write_str("Gone(..)"),
             PlaceError::Full(..) => f.write_str("Full(..)"),
@@ -627,8 +628,8 @@ impl<T> std::fmt::Debug for PlaceError<T> {
     }
 }
 
-impl<T> std::fmt::Display for PlaceError<T> {
-    fn fmt(&self, f: &mut std::fmt::Formatter<'_>) -> std::fmt::Result {
+impl<T> core::fmt::Display for PlaceError<T> {
+    fn fmt(&self, f: &mut core::fmt::Formatter<'_>) -> core::fmt::Result {
         match self {
             PlaceError::Gone(_) => write!(f, "the cursor isn't in the list"),
             PlaceError::Full(_) => write!(f, "the list is full"),
@@ -637,4 +638,5 @@ impl<T> std::fmt::Display for PlaceError<T> {
     }
 }
 
+#[cfg(feature = "std")]
 impl<T> std::error::Error for PlaceError<T> {}

@@ -626,8 +626,8 @@ impl<K: Key, T> Index<K> for StableLists<K, T> {
     }
 }
 
-impl<T> std::fmt::Debug for AddError<T> {
-    fn fmt(&self, f: &mut std::fmt::Formatter<'_>) -> std::fmt::Result {
+impl<T> core::fmt::Debug for AddError<T> {
+    fn fmt(&self, f: &mut core::fmt::Formatter<'_>) -> core::fmt::Result {
         match self {
             AddError::NoList(..) => f.write_str("NoList(..)"),
             AddError::Full(..) => f.write_str("Full(..)"),
@@ -636,8 +636,8 @@ impl<T> std::fmt::Debug for AddError<T> {
     }
 }
 
-impl<T> std::fmt::Display for AddError<T> {
-    fn fmt(&self, f: &mut std::fmt::Formatter<'_>) -> std::fmt::Result {
+impl<T> core::fmt::Display for AddError<T> {
+    fn fmt(&self, f: &mut core::fmt::Formatter<'_>) -> core::fmt::Result {
         match self {
             AddError::NoList(_) => write!(f, "there is no such list"),
             AddError::Full(_) => write!(f, "the lists are full"),
@@ -646,4 +646,5 @@ impl<T> std::fmt::Display for AddError<T> {
     }
 }
 
+#[cfg(feature = "std")]
 impl<T> std::error::Error for AddError<T> {}

@@ -153,8 +153,8 @@ pub fn shortest_paths<K: Key, N, E>(
     Ok(search.into_paths())
 }
 
-impl std::fmt::Display for PathError {
-    fn fmt(&self, f: &mut std::fmt::Formatter<'_>) -> std::fmt::Result {
+impl core::fmt::Display for PathError {
+    fn fmt(&self, f: &mut core::fmt::Formatter<'_>) -> core::fmt::Result {
         match self {
             PathError::TooLong => write!(f, "a path is too long"),
             PathError::Memory => write!(f, "out of memory"),
@@ -162,4 +162,5 @@ impl std::fmt::Display for PathError {
     }
 }
 
+#[cfg(feature = "std")]
 impl std::error::Error for PathError {}

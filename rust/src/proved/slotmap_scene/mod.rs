@@ -598,8 +598,8 @@ impl<K: Key, T> Index<K> for Scene<K, T> {
     }
 }
 
-impl<T> std::fmt::Debug for AddError<T> {
-    fn fmt(&self, f: &mut std::fmt::Formatter<'_>) -> std::fmt::Result {
+impl<T> core::fmt::Debug for AddError<T> {
+    fn fmt(&self, f: &mut core::fmt::Formatter<'_>) -> core::fmt::Result {
         match self {
             AddError::Gone(..) => f.write_str("Gone(..)"),
             AddError::GoneSibling(..) => f.write_str("GoneSibling(..)"),
@@ -609,8 +609,8 @@ impl<T> std::fmt::Debug for AddError<T> {
     }
 }
 
-impl<T> std::fmt::Display for AddError<T> {
-    fn fmt(&self, f: &mut std::fmt::Formatter<'_>) -> std::fmt::Result {
+impl<T> core::fmt::Display for AddError<T> {
+    fn fmt(&self, f: &mut core::fmt::Formatter<'_>) -> core::fmt::Result {
         match self {
             AddError::Gone(_) => write!(f, "the parent is gone"),
             AddError::GoneSibling(_) => write!(f, "the sibling is gone, or a root"),
@@ -620,10 +620,11 @@ impl<T> std::fmt::Display for AddError<T> {
     }
 }
 
+#[cfg(feature = "std")]
 impl<T> std::error::Error for AddError<T> {}
 
-impl std::fmt::Display for ReparentError {
-    fn fmt(&self, f: &mut std::fmt::Formatter<'_>) -> std::fmt::Result {
+impl core::fmt::Display for ReparentError {
+    fn fmt(&self, f: &mut core::fmt::Formatter<'_>) -> core::fmt::Result {
         match self {
             ReparentError::GoneNode => write!(f, "the node is gone"),
             ReparentError::GoneParent => write!(f, "the new parent is gone"),
@@ -632,10 +633,11 @@ impl std::fmt::Display for ReparentError {
     }
 }
 
+#[cfg(feature = "std")]
 impl std::error::Error for ReparentError {}
 
-impl std::fmt::Display for MoveError {
-    fn fmt(&self, f: &mut std::fmt::Formatter<'_>) -> std::fmt::Result {
+impl core::fmt::Display for MoveError {
+    fn fmt(&self, f: &mut core::fmt::Formatter<'_>) -> core::fmt::Result {
         match self {
             MoveError::GoneNode => write!(f, "the node is gone"),
             MoveError::GoneSibling => write!(f, "the sibling is gone, or a root"),
@@ -645,4 +647,5 @@ impl std::fmt::Display for MoveError {
     }
 }
 
+#[cfg(feature = "std")]
 impl std::error::Error for MoveError {}

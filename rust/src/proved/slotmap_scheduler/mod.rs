@@ -470,8 +470,8 @@ impl<K: Key, T> Index<K> for Scheduler<K, T> {
     }
 }
 
-impl<T> std::fmt::Debug for ScheduleError<T> {
-    fn fmt(&self, f: &mut std::fmt::Formatter<'_>) -> std::fmt::Result {
+impl<T> core::fmt::Debug for ScheduleError<T> {
+    fn fmt(&self, f: &mut core::fmt::Formatter<'_>) -> core::fmt::Result {
         match self {
             ScheduleError::Full(..) => f.write_str("Full(..)"),
             ScheduleError::Memory(..) => f.write_str("Memory(..)"),
@@ -479,8 +479,8 @@ impl<T> std::fmt::Debug for ScheduleError<T> {
     }
 }
 
-impl<T> std::fmt::Display for ScheduleError<T> {
-    fn fmt(&self, f: &mut std::fmt::Formatter<'_>) -> std::fmt::Result {
+impl<T> core::fmt::Display for ScheduleError<T> {
+    fn fmt(&self, f: &mut core::fmt::Formatter<'_>) -> core::fmt::Result {
         match self {
             ScheduleError::Full(_) => write!(f, "the scheduler is full"),
             ScheduleError::Memory(_) => write!(f, "out of memory"),
@@ -488,10 +488,11 @@ impl<T> std::fmt::Display for ScheduleError<T> {
     }
 }
 
+#[cfg(feature = "std")]
 impl<T> std::error::Error for ScheduleError<T> {}
 
-impl std::fmt::Display for RescheduleError {
-    fn fmt(&self, f: &mut std::fmt::Formatter<'_>) -> std::fmt::Result {
+impl core::fmt::Display for RescheduleError {
+    fn fmt(&self, f: &mut core::fmt::Formatter<'_>) -> core::fmt::Result {
         match self {
             RescheduleError::Gone => write!(f, "no job waits under this handle"),
             RescheduleError::Full => write!(f, "no turn is left"),
@@ -499,4 +500,5 @@ impl std::fmt::Display for RescheduleError {
     }
 }
 
+#[cfg(feature = "std")]
 impl std::error::Error for RescheduleError {}
