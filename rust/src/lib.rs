@@ -44,11 +44,14 @@
 //!
 //! `serde`: keys and maps in slotmap's format. `structures`: [`list`], [`lists`], [`graph`], [`paths`], [`scene`], [`entities`] and
 //! [`scheduler`]. `runs`: lists of commands for any map. `json`: keys and lists of slots as values of serde_json.
+#![no_std]
 #![forbid(unsafe_code)]
 #![warn(missing_docs)]
 #![allow(unexpected_cfgs)]
 
 extern crate alloc;
+#[cfg(feature = "std")]
+extern crate std;
 
 #[macro_use]
 mod clauses;
@@ -86,6 +89,7 @@ pub use maps::dense::{self, DenseSlotMap};
 pub use maps::hop::{self, HopSlotMap};
 #[doc(inline)]
 pub use maps::secondary::{self, SecondaryMap};
+#[cfg(feature = "std")]
 #[doc(inline)]
 pub use maps::sparse_secondary::{self, SparseSecondaryMap};
 pub use proved::slotmap_core::keys::{is_older_version, DefaultKey, Key, KeyData, NodeKey};
@@ -113,6 +117,7 @@ pub mod fallible {
     pub use crate::proved::slotmap_dense as dense;
     pub use crate::proved::slotmap_hop as hop;
     pub use crate::proved::slotmap_secondary as secondary;
+    #[cfg(feature = "std")]
     pub use crate::proved::slotmap_sparse as sparse_secondary;
     pub use crate::rt::std::alloc::{AllocError, AllocFailed, Global};
     pub use crate::rt::vec::Vec;
@@ -125,6 +130,7 @@ pub mod fallible {
     pub use hop::HopSlotMap;
     #[doc(no_inline)]
     pub use secondary::SecondaryMap;
+    #[cfg(feature = "std")]
     #[doc(no_inline)]
     pub use sparse_secondary::SparseSecondaryMap;
 }
@@ -172,8 +178,8 @@ impl<T> Slottable for T {}
 
 #[doc(hidden)]
 pub mod __impl {
-    pub use std::convert::From;
-    pub use std::result::Result;
+    pub use core::convert::From;
+    pub use core::result::Result;
 
     pub fn null() -> crate::KeyData {
         crate::KeyData::default()

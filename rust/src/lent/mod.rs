@@ -8,10 +8,10 @@
 /// Time n log n for n places. Nothing is allocated.
 pub(crate) fn disjoint<T, const N: usize>(items: &mut [T], places: [usize; N]) -> Option<[&mut T; N]> {
     let order = sorted(places)?;
-    let mut found: [Option<&mut T>; N] = std::array::from_fn(|_| None);
+    let mut found: [Option<&mut T>; N] = core::array::from_fn(|_| None);
     let (mut rest, mut passed) = (items, 0);
     for at in order {
-        let (item, behind) = std::mem::take(&mut rest).get_mut(places[at] - passed..)?.split_first_mut()?;
+        let (item, behind) = core::mem::take(&mut rest).get_mut(places[at] - passed..)?.split_first_mut()?;
         found[at] = Some(item);
         rest = behind;
         passed = places[at] + 1;
@@ -21,7 +21,7 @@ pub(crate) fn disjoint<T, const N: usize>(items: &mut [T], places: [usize; N]) -
 
 /// The positions of these numbers, from that of the smallest number on; or `None` if two numbers are the same.
 pub(crate) fn sorted<T: Ord + Copy, const N: usize>(numbers: [T; N]) -> Option<[usize; N]> {
-    let mut order: [usize; N] = std::array::from_fn(|at| at);
+    let mut order: [usize; N] = core::array::from_fn(|at| at);
     order.sort_unstable_by_key(|at| numbers[*at]);
     let twice = order.windows(2).any(|pair| numbers[pair[0]] == numbers[pair[1]]);
     (!twice).then_some(order)
@@ -38,7 +38,10 @@ pub(crate) fn all<T, const N: usize>(found: [Option<T>; N]) -> Option<[T; N]> {
 #[cfg(test)]
 mod tests {
     use super::disjoint;
-    use crate::{DenseSlotMap, HopSlotMap, SecondaryMap, SlotMap, SparseSecondaryMap};
+    #[cfg(feature = "std")]
+    use crate::SparseSecondaryMap;
+    use crate::{DenseSlotMap, HopSlotMap, SecondaryMap, SlotMap};
+    use alloc::vec::Vec;
 
     /// What `disjoint` lends, as numbers.
     fn lent<const N: usize>(places: [usize; N]) -> Option<[u8; N]> {
@@ -145,5 +148,6 @@ mod tests {
     }
 
     side_walks!(walks_of_secondary_maps, SecondaryMap);
+    #[cfg(feature = "std")]
     side_walks!(walks_of_sparse_secondary_maps, SparseSecondaryMap);
 }

@@ -3,7 +3,7 @@
 /// Removing, walking, copying, printing, and lists of slots.
 macro_rules! content {
     ($map:ident, $proved:ident $(, $s:ident)?) => {
-        impl<K: crate::Key, V $(, $s: std::hash::BuildHasher)?> $map<K, V $(, $s)?> {
+        impl<K: crate::Key, V $(, $s: core::hash::BuildHasher)?> $map<K, V $(, $s)?> {
             /// Calls `f` once for each key with its value, which it may change, and removes those for which it returns false.
             ///
             /// If `f` panics, the pairs that it has not been asked about stay, and those that it rejected are gone.
@@ -127,7 +127,7 @@ macro_rules! content {
             /// # Ok::<(), slotmap_proved::errors::OutOfMemory>(())
             /// ```
             #[doc = clauses!($proved $map to_slots)]
-            pub fn to_slots(&self) -> Result<Vec<crate::serial::SlotRecord<V>>, crate::errors::OutOfMemory>
+            pub fn to_slots(&self) -> Result<alloc::vec::Vec<crate::serial::SlotRecord<V>>, crate::errors::OutOfMemory>
             where
                 V: Clone,
             {
@@ -135,7 +135,7 @@ macro_rules! content {
             }
         }
 
-        impl<K: crate::Key, V: Clone $(, $s: std::hash::BuildHasher + Clone)?> $map<K, V $(, $s)?> {
+        impl<K: crate::Key, V: Clone $(, $s: core::hash::BuildHasher + Clone)?> $map<K, V $(, $s)?> {
             /// Returns a copy, with clones of the values. It fails if memory runs out. Not in slotmap.
             ///
             /// ```
@@ -152,7 +152,7 @@ macro_rules! content {
 
         /// It panics if memory runs out; `try_clone` returns an error then. In `clone_from` the copy is made first: for a while there are
         /// both, and if a clone of a value panics, the map is as before.
-        impl<K: crate::Key, V: Clone $(, $s: std::hash::BuildHasher + Clone)?> Clone for $map<K, V $(, $s)?> {
+        impl<K: crate::Key, V: Clone $(, $s: core::hash::BuildHasher + Clone)?> Clone for $map<K, V $(, $s)?> {
             #[track_caller]
             fn clone(&self) -> Self {
                 $map(crate::maps::in_memory(self.0.clone()))
@@ -165,13 +165,13 @@ macro_rules! content {
         }
 
         /// Prints the keys with their values, as `{DefaultKey(1v1): 5}`. slotmap prints the fields of the map.
-        impl<K: crate::Key, V: std::fmt::Debug $(, $s: std::hash::BuildHasher)?> std::fmt::Debug for $map<K, V $(, $s)?> {
-            fn fmt(&self, f: &mut std::fmt::Formatter<'_>) -> std::fmt::Result {
-                std::fmt::Debug::fmt(&self.0, f)
+        impl<K: crate::Key, V: core::fmt::Debug $(, $s: core::hash::BuildHasher)?> core::fmt::Debug for $map<K, V $(, $s)?> {
+            fn fmt(&self, f: &mut core::fmt::Formatter<'_>) -> core::fmt::Result {
+                core::fmt::Debug::fmt(&self.0, f)
             }
         }
 
-        impl<'a, K: crate::Key, V $(, $s: std::hash::BuildHasher)?> IntoIterator for &'a $map<K, V $(, $s)?> {
+        impl<'a, K: crate::Key, V $(, $s: core::hash::BuildHasher)?> IntoIterator for &'a $map<K, V $(, $s)?> {
             type Item = (K, &'a V);
             type IntoIter = Iter<'a, K, V>;
 
@@ -180,7 +180,7 @@ macro_rules! content {
             }
         }
 
-        impl<'a, K: crate::Key, V $(, $s: std::hash::BuildHasher)?> IntoIterator for &'a mut $map<K, V $(, $s)?> {
+        impl<'a, K: crate::Key, V $(, $s: core::hash::BuildHasher)?> IntoIterator for &'a mut $map<K, V $(, $s)?> {
             type Item = (K, &'a mut V);
             type IntoIter = IterMut<'a, K, V>;
 
@@ -189,7 +189,7 @@ macro_rules! content {
             }
         }
 
-        impl<K: crate::Key, V $(, $s: std::hash::BuildHasher)?> IntoIterator for $map<K, V $(, $s)?> {
+        impl<K: crate::Key, V $(, $s: core::hash::BuildHasher)?> IntoIterator for $map<K, V $(, $s)?> {
             type Item = (K, V);
             type IntoIter = IntoIter<K, V>;
 
@@ -273,28 +273,28 @@ macro_rules! iter_mut_trust {
 macro_rules! conversions {
     ($map:ident $(, $s:ident)?) => {
         /// The map as the proved one, whose calls return a `Result` where memory may run out.
-        impl<K: crate::Key, V $(, $s: std::hash::BuildHasher)?> From<$map<K, V $(, $s)?>> for proved::$map<K, V $(, $s)?> {
+        impl<K: crate::Key, V $(, $s: core::hash::BuildHasher)?> From<$map<K, V $(, $s)?>> for proved::$map<K, V $(, $s)?> {
             fn from(map: $map<K, V $(, $s)?>) -> Self {
                 map.0
             }
         }
 
         /// A proved map under slotmap's names.
-        impl<K: crate::Key, V $(, $s: std::hash::BuildHasher)?> From<proved::$map<K, V $(, $s)?>> for $map<K, V $(, $s)?> {
+        impl<K: crate::Key, V $(, $s: core::hash::BuildHasher)?> From<proved::$map<K, V $(, $s)?>> for $map<K, V $(, $s)?> {
             fn from(map: proved::$map<K, V $(, $s)?>) -> Self {
                 $map(map)
             }
         }
 
         /// The proved map inside.
-        impl<K: crate::Key, V $(, $s: std::hash::BuildHasher)?> AsRef<proved::$map<K, V $(, $s)?>> for $map<K, V $(, $s)?> {
+        impl<K: crate::Key, V $(, $s: core::hash::BuildHasher)?> AsRef<proved::$map<K, V $(, $s)?>> for $map<K, V $(, $s)?> {
             fn as_ref(&self) -> &proved::$map<K, V $(, $s)?> {
                 &self.0
             }
         }
 
         /// The proved map inside, to change it.
-        impl<K: crate::Key, V $(, $s: std::hash::BuildHasher)?> AsMut<proved::$map<K, V $(, $s)?>> for $map<K, V $(, $s)?> {
+        impl<K: crate::Key, V $(, $s: core::hash::BuildHasher)?> AsMut<proved::$map<K, V $(, $s)?>> for $map<K, V $(, $s)?> {
             fn as_mut(&mut self) -> &mut proved::$map<K, V $(, $s)?> {
                 &mut self.0
             }

@@ -308,8 +308,8 @@ macro_rules! entries {
         }
 
         /// Prints the key, and the value if there is one.
-        impl<'a, K: crate::Key, V: std::fmt::Debug $(, $s: $bound)?> std::fmt::Debug for Entry<'a, K, V $(, $s)?> {
-            fn fmt(&self, f: &mut std::fmt::Formatter<'_>) -> std::fmt::Result {
+        impl<'a, K: crate::Key, V: core::fmt::Debug $(, $s: $bound)?> core::fmt::Debug for Entry<'a, K, V $(, $s)?> {
+            fn fmt(&self, f: &mut core::fmt::Formatter<'_>) -> core::fmt::Result {
                 match self {
                     Entry::Occupied(entry) => f.debug_tuple("Occupied").field(entry).finish(),
                     Entry::Vacant(entry) => f.debug_tuple("Vacant").field(entry).finish(),
@@ -318,16 +318,16 @@ macro_rules! entries {
         }
 
         /// Prints the key and the value.
-        impl<'a, K: crate::Key, V: std::fmt::Debug $(, $s: $bound)?> std::fmt::Debug for OccupiedEntry<'a, K, V $(, $s)?> {
-            fn fmt(&self, f: &mut std::fmt::Formatter<'_>) -> std::fmt::Result {
-                std::fmt::Debug::fmt(&self.0, f)
+        impl<'a, K: crate::Key, V: core::fmt::Debug $(, $s: $bound)?> core::fmt::Debug for OccupiedEntry<'a, K, V $(, $s)?> {
+            fn fmt(&self, f: &mut core::fmt::Formatter<'_>) -> core::fmt::Result {
+                core::fmt::Debug::fmt(&self.0, f)
             }
         }
 
         /// Prints the key.
-        impl<'a, K: crate::Key, V $(, $s: $bound)?> std::fmt::Debug for VacantEntry<'a, K, V $(, $s)?> {
-            fn fmt(&self, f: &mut std::fmt::Formatter<'_>) -> std::fmt::Result {
-                std::fmt::Debug::fmt(&self.0, f)
+        impl<'a, K: crate::Key, V $(, $s: $bound)?> core::fmt::Debug for VacantEntry<'a, K, V $(, $s)?> {
+            fn fmt(&self, f: &mut core::fmt::Formatter<'_>) -> core::fmt::Result {
+                core::fmt::Debug::fmt(&self.0, f)
             }
         }
     };

@@ -157,7 +157,7 @@ macro_rules! primary {
             /// assert_eq!(map[key], 5);
             /// ```
             #[doc = clauses!($proved $map try_reserve)]
-            pub fn try_reserve(&mut self, additional: usize) -> Result<(), std::collections::TryReserveError> {
+            pub fn try_reserve(&mut self, additional: usize) -> Result<(), alloc::collections::TryReserveError> {
                 Ok(self.0.reserve(additional)?)
             }
 
@@ -175,7 +175,7 @@ macro_rules! primary {
             /// # Ok::<(), Box<dyn std::error::Error>>(())
             /// ```
             #[doc = clauses!($proved $map from_slots)]
-            pub fn from_slots(list: Vec<crate::serial::SlotRecord<V>>) -> Result<Self, crate::errors::SlotsError> {
+            pub fn from_slots(list: alloc::vec::Vec<crate::serial::SlotRecord<V>>) -> Result<Self, crate::errors::SlotsError> {
                 proved::$map::from_slots(Global, crate::rt::vec::Vec::from_std(list)).map($map)
             }
         }

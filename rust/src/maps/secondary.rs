@@ -2,6 +2,7 @@
 
 use crate::proved::slotmap_secondary as proved;
 use crate::{Global, Key};
+use alloc::vec::Vec;
 
 /// A map that holds more values under the keys of another map: for most of its keys.
 ///
@@ -27,7 +28,7 @@ values!(SecondaryMap, slotmap_secondary, get_disjoint_mut, "invalid SecondaryMap
 content!(SecondaryMap, slotmap_secondary);
 conversions!(SecondaryMap);
 side!(SecondaryMap, slotmap_secondary);
-entries!(SecondaryMap, slotmap_secondary, std::convert::identity);
+entries!(SecondaryMap, slotmap_secondary, core::convert::identity);
 
 /// Making a map, and its room.
 impl<K: Key, V> SecondaryMap<K, V> {
@@ -119,7 +120,7 @@ impl<K: Key, V> SecondaryMap<K, V> {
     /// assert!(map.try_set_capacity(usize::MAX).is_err());
     /// ```
     #[doc = clauses!(slotmap_secondary SecondaryMap try_set_capacity)]
-    pub fn try_set_capacity(&mut self, new_capacity: usize) -> Result<(), std::collections::TryReserveError> {
+    pub fn try_set_capacity(&mut self, new_capacity: usize) -> Result<(), alloc::collections::TryReserveError> {
         Ok(self.0.set_capacity(new_capacity)?)
     }
 

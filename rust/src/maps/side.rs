@@ -3,7 +3,7 @@
 /// Putting and removing, making a map from pairs, and comparing.
 macro_rules! side {
     ($map:ident, $proved:ident $(, $s:ident)?) => {
-        impl<K: crate::Key, V $(, $s: std::hash::BuildHasher)?> $map<K, V $(, $s)?> {
+        impl<K: crate::Key, V $(, $s: core::hash::BuildHasher)?> $map<K, V $(, $s)?> {
             /// Puts a value under a key, and returns the value that the key had here.
             ///
             /// A null key, or one that is older than the key at its index, changes nothing: the value is dropped, and `None` returned. A newer
@@ -56,7 +56,7 @@ macro_rules! side {
         }
 
         /// Puts the pairs one after the other, as `insert` does. If memory runs out it panics, and the pairs before are in the map.
-        impl<K: crate::Key, V $(, $s: std::hash::BuildHasher)?> Extend<(K, V)> for $map<K, V $(, $s)?> {
+        impl<K: crate::Key, V $(, $s: core::hash::BuildHasher)?> Extend<(K, V)> for $map<K, V $(, $s)?> {
             #[track_caller]
             fn extend<I: IntoIterator<Item = (K, V)>>(&mut self, pairs: I) {
                 for (key, value) in pairs {
@@ -66,7 +66,7 @@ macro_rules! side {
         }
 
         /// Puts the pairs one after the other, as `insert` does. If memory runs out it panics, and the pairs before are in the map.
-        impl<'a, K: crate::Key, V: 'a + Copy $(, $s: std::hash::BuildHasher)?> Extend<(K, &'a V)> for $map<K, V $(, $s)?> {
+        impl<'a, K: crate::Key, V: 'a + Copy $(, $s: core::hash::BuildHasher)?> Extend<(K, &'a V)> for $map<K, V $(, $s)?> {
             #[track_caller]
             fn extend<I: IntoIterator<Item = (K, &'a V)>>(&mut self, pairs: I) {
                 for (key, value) in pairs {
@@ -76,7 +76,7 @@ macro_rules! side {
         }
 
         /// A map of these pairs, put one after the other. It panics if memory runs out.
-        impl<K: crate::Key, V $(, $s: std::hash::BuildHasher + Default)?> FromIterator<(K, V)> for $map<K, V $(, $s)?> {
+        impl<K: crate::Key, V $(, $s: core::hash::BuildHasher + Default)?> FromIterator<(K, V)> for $map<K, V $(, $s)?> {
             #[track_caller]
             fn from_iter<I: IntoIterator<Item = (K, V)>>(pairs: I) -> Self {
                 let mut map = Self::default();
@@ -86,13 +86,13 @@ macro_rules! side {
         }
 
         /// Two maps are equal if they have the same keys, with equal values.
-        impl<K: crate::Key, V: PartialEq $(, $s: std::hash::BuildHasher)?> PartialEq for $map<K, V $(, $s)?> {
+        impl<K: crate::Key, V: PartialEq $(, $s: core::hash::BuildHasher)?> PartialEq for $map<K, V $(, $s)?> {
             fn eq(&self, other: &Self) -> bool {
                 self.0 == other.0
             }
         }
 
-        impl<K: crate::Key, V: Eq $(, $s: std::hash::BuildHasher)?> Eq for $map<K, V $(, $s)?> {}
+        impl<K: crate::Key, V: Eq $(, $s: core::hash::BuildHasher)?> Eq for $map<K, V $(, $s)?> {}
     };
 }
 

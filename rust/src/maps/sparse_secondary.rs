@@ -2,8 +2,9 @@
 
 use crate::proved::slotmap_sparse as proved;
 use crate::{Global, Key};
+use alloc::vec::Vec;
+use core::hash::BuildHasher;
 use std::collections::hash_map::RandomState;
-use std::hash::BuildHasher;
 
 /// A map that holds more values under the keys of another map: for few of its keys.
 ///
@@ -155,7 +156,7 @@ impl<K: Key, V, S: BuildHasher> SparseSecondaryMap<K, V, S> {
     /// assert!(map.try_reserve(usize::MAX).is_err());
     /// ```
     #[doc = clauses!(slotmap_sparse SparseSecondaryMap try_reserve)]
-    pub fn try_reserve(&mut self, additional: usize) -> Result<(), std::collections::TryReserveError> {
+    pub fn try_reserve(&mut self, additional: usize) -> Result<(), alloc::collections::TryReserveError> {
         Ok(self.0.reserve(additional)?)
     }
 

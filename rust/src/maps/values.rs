@@ -3,7 +3,7 @@
 /// Looking up: `len` to `get_disjoint_unchecked_mut`, and `Index`.
 macro_rules! values {
     ($map:ident, $proved:ident, $disjoint:ident, $missing:literal $(, $s:ident)?) => {
-        impl<K: crate::Key, V $(, $s: std::hash::BuildHasher)?> $map<K, V $(, $s)?> {
+        impl<K: crate::Key, V $(, $s: core::hash::BuildHasher)?> $map<K, V $(, $s)?> {
             /// Returns how many values the map has. Constant time.
             ///
             /// ```
@@ -150,7 +150,7 @@ macro_rules! values {
         }
 
         /// The value of a key. It panics if the key has no value here.
-        impl<K: crate::Key, V $(, $s: std::hash::BuildHasher)?> std::ops::Index<K> for $map<K, V $(, $s)?> {
+        impl<K: crate::Key, V $(, $s: core::hash::BuildHasher)?> core::ops::Index<K> for $map<K, V $(, $s)?> {
             type Output = V;
 
             #[inline(always)]
@@ -164,7 +164,7 @@ macro_rules! values {
         }
 
         /// The value of a key, to change it. It panics if the key has no value here.
-        impl<K: crate::Key, V $(, $s: std::hash::BuildHasher)?> std::ops::IndexMut<K> for $map<K, V $(, $s)?> {
+        impl<K: crate::Key, V $(, $s: core::hash::BuildHasher)?> core::ops::IndexMut<K> for $map<K, V $(, $s)?> {
             #[inline(always)]
             #[track_caller]
             fn index_mut(&mut self, key: K) -> &mut V {

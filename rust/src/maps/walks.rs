@@ -22,11 +22,11 @@ macro_rules! walk {
 
         impl<$($life,)? $k: crate::Key, $v $(, $s: $bound)?> ExactSizeIterator for $name<$($life,)? $k, $v $(, $s)?> {}
 
-        impl<$($life,)? $k: crate::Key, $v $(, $s: $bound)?> std::iter::FusedIterator for $name<$($life,)? $k, $v $(, $s)?> {}
+        impl<$($life,)? $k: crate::Key, $v $(, $s: $bound)?> core::iter::FusedIterator for $name<$($life,)? $k, $v $(, $s)?> {}
 
         /// Prints how much is left.
-        impl<$($life,)? $k: crate::Key, $v $(, $s: $bound)?> std::fmt::Debug for $name<$($life,)? $k, $v $(, $s)?> {
-            fn fmt(&self, f: &mut std::fmt::Formatter<'_>) -> std::fmt::Result {
+        impl<$($life,)? $k: crate::Key, $v $(, $s: $bound)?> core::fmt::Debug for $name<$($life,)? $k, $v $(, $s)?> {
+            fn fmt(&self, f: &mut core::fmt::Formatter<'_>) -> core::fmt::Result {
                 f.debug_struct(stringify!($name)).field("remaining", &self.len()).finish()
             }
         }
@@ -72,10 +72,10 @@ macro_rules! reading_walks {
 /// What becomes of a map whose drain is forgotten.
 macro_rules! forgotten {
     (SparseSecondaryMap) => {
-        "If it is forgotten, as by [`std::mem::forget`], the map is empty, and its memory is lost."
+        "If it is forgotten, as by [`core::mem::forget`], the map is empty, and its memory is lost."
     };
     ($map:ident) => {
-        "If it is forgotten, as by [`std::mem::forget`], what is left stays in the map."
+        "If it is forgotten, as by [`core::mem::forget`], what is left stays in the map."
     };
 }
 
@@ -105,11 +105,11 @@ macro_rules! lending_walks {
 
         impl<'a, K: crate::Key, V> ExactSizeIterator for ValuesMut<'a, K, V> {}
 
-        impl<'a, K: crate::Key, V> std::iter::FusedIterator for ValuesMut<'a, K, V> {}
+        impl<'a, K: crate::Key, V> core::iter::FusedIterator for ValuesMut<'a, K, V> {}
 
         /// Prints how much is left.
-        impl<'a, K: crate::Key, V> std::fmt::Debug for ValuesMut<'a, K, V> {
-            fn fmt(&self, f: &mut std::fmt::Formatter<'_>) -> std::fmt::Result {
+        impl<'a, K: crate::Key, V> core::fmt::Debug for ValuesMut<'a, K, V> {
+            fn fmt(&self, f: &mut core::fmt::Formatter<'_>) -> core::fmt::Result {
                 f.debug_struct("ValuesMut").field("remaining", &self.len()).finish()
             }
         }

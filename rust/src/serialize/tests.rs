@@ -1,8 +1,9 @@
 //! The format, and lists that no map wrote. They run with the features `serde` and `json`.
 
 use crate::{new_key_type, DefaultKey, DenseSlotMap, HopSlotMap, Key, KeyData, SecondaryMap, SlotMap, SparseSecondaryMap};
+use alloc::collections::BTreeMap;
+use alloc::vec::Vec;
 use serde_json::{from_str, from_value, json, to_string, Value};
-use std::collections::BTreeMap;
 
 new_key_type! {
     struct CityKey;

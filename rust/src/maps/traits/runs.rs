@@ -4,8 +4,9 @@ use crate::errors::{InsertError, InsertWithError, OutOfMemory, PutError, Reattac
 use crate::fallible::Vec;
 use crate::fallible::OrPut;
 use crate::runs::{Detaching, Primary, Secondary};
-use crate::{DenseSlotMap, Global, HopSlotMap, Key, SecondaryMap, SlotMap, SparseSecondaryMap};
-use std::hash::BuildHasher;
+use crate::{DenseSlotMap, Global, HopSlotMap, Key, SecondaryMap, SlotMap};
+#[cfg(feature = "std")]
+use crate::SparseSecondaryMap;
 
 macro_rules! primaries {
     ($($map:ident: $proved:ident)*) => {
@@ -107,7 +108,7 @@ detachings!(SlotMap DenseSlotMap);
 
 macro_rules! secondaries {
     ($($map:ident $(<$s:ident>)?)*) => {
-        $(impl<K: Key, V $(, $s: BuildHasher)?> Secondary<K, V> for $map<K, V $(, $s)?> {
+        $(impl<K: Key, V $(, $s: core::hash::BuildHasher)?> Secondary<K, V> for $map<K, V $(, $s)?> {
             fn len(&self) -> usize {
                 Secondary::len(&self.0)
             }
@@ -135,4 +136,6 @@ macro_rules! secondaries {
     };
 }
 
-secondaries!(SecondaryMap SparseSecondaryMap<S>);
+secondaries!(SecondaryMap);
+#[cfg(feature = "std")]
+secondaries!(SparseSecondaryMap<S>);

@@ -3,14 +3,15 @@
 use crate::entities::{CloneTable, Table};
 use crate::errors::{PutError, ReserveError};
 use crate::fallible::AllocError;
-use crate::{proved, Global, Key, SecondaryMap, SparseSecondaryMap};
-use std::hash::BuildHasher;
+use crate::{proved, Global, Key, SecondaryMap};
+#[cfg(feature = "std")]
+use crate::SparseSecondaryMap;
 
 macro_rules! tables {
     ($($map:ident $(<$s:ident>)?, $new:expr, |$self:ident, $additional:ident, $last:ident| $reserve:expr;)*) => {
-        $(impl<K: Key, C $(, $s: BuildHasher + Default)?> crate::sealed::Table<K> for $map<K, C $(, $s)?> {}
+        $(impl<K: Key, C $(, $s: core::hash::BuildHasher + Default)?> crate::sealed::Table<K> for $map<K, C $(, $s)?> {}
 
-        impl<K: Key, C $(, $s: BuildHasher + Default)?> Table<K> for $map<K, C $(, $s)?> {
+        impl<K: Key, C $(, $s: core::hash::BuildHasher + Default)?> Table<K> for $map<K, C $(, $s)?> {
             type Component = C;
 
             fn new(alloc: Global) -> Result<Self, ReserveError> {
@@ -50,7 +51,7 @@ macro_rules! tables {
             }
         }
 
-        impl<K: Key, C: Clone $(, $s: BuildHasher + Default + Clone)?> CloneTable<K> for $map<K, C $(, $s)?> {
+        impl<K: Key, C: Clone $(, $s: core::hash::BuildHasher + Default + Clone)?> CloneTable<K> for $map<K, C $(, $s)?> {
             fn clone_table(&self) -> Result<Self, AllocError> {
                 self.0.clone().map($map)
             }
@@ -60,6 +61,10 @@ macro_rules! tables {
 
 tables! {
     SecondaryMap, proved::slotmap_secondary::SecondaryMap::new, |self, _additional, last| self.0.set_capacity(last);
+}
+
+#[cfg(feature = "std")]
+tables! {
     SparseSecondaryMap<S>, |alloc| proved::slotmap_sparse::SparseSecondaryMap::with_hasher(alloc, S::default()),
         |self, additional, _last| self.0.reserve(additional);
 }
