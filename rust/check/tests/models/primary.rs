@@ -444,7 +444,6 @@ impl dense::Beside<'_> {
         let wanted = two[0] != two[1] && two.iter().all(|key| self.model.place(*key).is_some());
         let fallible = self.map.as_mut();
         assert_eq!(fallible.can_replace(&two), wanted);
-        assert_eq!(fallible.get_many_mut(two).is_some(), wanted);
         assert_eq!(fallible.get_disjoint_mut(two).is_some(), wanted);
     }
 }
