@@ -3,6 +3,8 @@
 //! Their sources are generated, in `src/programs`. What they print is compared with what the proved programs print, by
 //! `tests/programs.rs`. With `--cfg without_slotrun` the program slotrun is left out, for compilers before Rust 1.65.
 
+#![allow(unexpected_cfgs)]
+
 #[macro_use]
 #[allow(unused_imports, dead_code)] // What the programs use of it changes with their sources.
 #[path = "../rt.rs"]
