@@ -1,5 +1,4 @@
 pub mod Key
-pub mod NonZero
 pub mod Content
 pub mod Listing
 pub mod Draining

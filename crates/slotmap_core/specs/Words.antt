@@ -4,8 +4,8 @@ pub use Rattle.std.specs.Prelude.{zip, IsSome, refl, option_copied, vec_capacity
 pub use Rattle.std.specs.Prelude.{slice_set, get_or, not, zero, suc, option_and_then, max, min, reverse, slice_index_or, vec_len, is_some, All, filter}
 pub use Rattle.std.specs.Prelude.{unwrap_or, MatchOption, take, MatchResult, count_by, Contains, cond, nat_eq, IsSomeAnd, codes, nat_lt}
 pub use Rattle.std.specs.Borrow.{MutBor, sem, Lends, Fml, RattleType, LendsIf, GName, Bor, RestsIfErr, LendsBoth, Array, follows, LendsSoOk}
-pub use Rattle.std.specs.Cmp.{partial_order_from_own_ties, nat_cmp_total, nat_eq_equiv, unsigned_tied, nat_cmp_is, on_per, on_equiv, tied_itself, Equal-is}
-pub use Rattle.std.specs.Cmp.Rules.{comparing, hashing}
+pub use Rattle.std.specs.Cmp.{nat_cmp_total, nat_eq_equiv, unsigned_tied, nat_cmp_is, on_per, on_equiv, tied_itself, Equal-is}
+pub use Rattle.std.specs.Cmp.Rules.{hashing}
 pub use Rattle.std.specs.Coded.{Coded, code_by, coded×, coded_ℕ, coded_list}
 pub use Rattle.std.specs.FinMap.Entries.{find, below_all, is_sorted, is_some-find}
 pub use Rattle.std.specs.Fn.{Mut, Takes, Called, FnReturns, Shared, FnReturnsAt}
@@ -14,7 +14,6 @@ pub use Rattle.std.specs.HashMap.{HashMap, hash_map_len, spare, WritesThrough, h
 pub use Rattle.std.specs.HashMap.Eq.{hash_map_eq_from_get, get_from_hash_map_eq}
 pub use Rattle.std.specs.Int.{bit_at, bit_not}
 pub use Rattle.std.specs.Int.Bits.{or_zero_r}
-pub use Rattle.std.specs.Int.NonZero.{non_zero_u32_get}
 pub use Rattle.std.specs.Iterator.{UpTo, at_most, YieldsFirstBy, item_count, size, YieldsThen, IsFinite, Drains, Count, MakesProgress}
 pub use Rattle.std.specs.Iterator.Runs.{YieldsMutRefsInOrder}
 pub use Rattle.std.specs.List.{AllZip, FoldsTo, AllByRecursion, list_any}
@@ -22,14 +21,13 @@ unfoldable pub use Rattle.std.specs.List.{IsDistinct}
 pub use Rattle.std.specs.Map.{keys_of, lookup}
 pub use Rattle.std.specs.Map.Calls.{ModifiesValue, RetainsPairs, SomeCallAtPair}
 pub use Rattle.std.specs.Option.{option_copied_mut, UnwrapsOrElse, option_eq, option_or}
-pub use Rattle.std.specs.Ordering.{as_partial_cmp, eq_by_cmp, nat_cmp, ordering_then, is_lt, ordering_reverse}
+pub use Rattle.std.specs.Ordering.{eq_by_cmp, nat_cmp, ordering_then, is_lt, ordering_reverse}
 pub use Rattle.std.specs.Result.{result_ok}
 pub use Rattle.std.specs.Simd.Lanes.{zip2, mask_l}
 pub use Rattle.std.specs.Vec.{with_items}
 pub use Rattle.std.specs.Vec.Iter.{into_iter_items, into_iter_len, into_iter_steps}
 pub use Rattle.slotmap_core.specs.Key.{Key, key_cmp, IsKey, last_version, null_key, key_from, is_last, is_older, next_version, same_keys, hashed, coded_key}
-pub use Rattle.slotmap_core.specs.Key.{ffi, made_odd}
-pub use Rattle.slotmap_core.specs.NonZero.{non_zero, non_zero_again}
+pub use Rattle.slotmap_core.specs.Key.{ffi}
 pub use Rattle.slotmap_core.specs.Content.{IsContent, Content, IsLive, most, used, places, Stands, IsDetached, content_code, Uses, IsStack, IsRetired, IsVacant, HasVacant}
 pub use Rattle.slotmap_core.specs.Listing.{IsListing, IsKeyListing, NoneBelow, ListsByIndex, IsValueListing, IsListingBut, with_entries}
 pub use Rattle.slotmap_core.specs.Draining.{KeepsLoan, ListsAlong, KeepsAlong, InOrderAlong, drain_count, Along}

@@ -6,14 +6,10 @@
 
 ghost use Rattle.std.specs.Prelude.{◌≡◌, ◌↔◌, ◌/◌, ◌%◌, ◌^◌, IsTrue, refl};
 ghost use Rattle.slotmap_core.specs.Words.{Key as KeyOf, IsKey, null_key, ffi, key_from, is_older};
-ghost use Rattle.slotmap_core.specs.Words.{made_odd, non_zero_u32_get};
 
-use crate::sure::sure;
-use std::cmp::Ordering;
 use std::fmt;
 use std::hash::{Hash, Hasher};
 use std::marker::Model;
-use std::num::NonZeroU32;
 
 mod node_key;
 
@@ -33,27 +29,22 @@ pub use node_key::NodeKey;
 /// assert!(rt; data < KeyData::new(2, 5));
 /// assert!(rt; data < KeyData::default());
 /// ```
-#[derive(Clone, Copy)]
+#[derive(Clone, Copy, PartialEq, Eq, PartialOrd, Ord)]
 pub struct KeyData {
     idx: u32,
-    // An odd number is never 0. Of 0 a build of these sources as Rust makes `None`, so there an option
-    // of a key takes the 8 bytes of a key.
-    version: NonZeroU32,
+    version: u32,
 }
 
 impl Model for KeyData {
-    ghost use Rattle.std.proofs.Common.{ap};
-    ghost use Rattle.slotmap_core.specs.Words.{Key, IsKey, non_zero_u32_get, non_zero, non_zero_again};
+    ghost use Rattle.slotmap_core.specs.Words.{Key, IsKey};
 
     ghost Value = { Key };
 
-    ghost view = { λ k. record { index = k.idx; version = non_zero_u32_get k.version } };
+    ghost view = { λ k. record { index = k.idx; version = k.version } };
 
-    ghost invariant = { λ k. IsKey (record { index = k.idx; version = non_zero_u32_get k.version }) };
+    ghost invariant = { λ k. IsKey (record { index = k.idx; version = k.version }) };
 
-    ghost inverse = { λ k. record { idx = k.index; version = non_zero k.version } };
-
-    ghost inverse_ok = { λ k _. ap (λ v. record { idx = k.idx; version = v }) (non_zero_again k.version) };
+    ghost inverse = { λ k. record { idx = k.index; version = k.version } };
 }
 
 impl KeyData {
@@ -67,6 +58,7 @@ impl KeyData {
     /// assert_eq!(rt; KeyData::new(2, 4), KeyData::new(2, 5));
     /// assert_eq!(rt; KeyData::new(4294967295, 9), KeyData::default());
     /// ```
+    #[tactic(auto, using(crate::proofs::General::Odd::or_one))]
     pub fn new(idx: u32, version: u32) -> KeyData
         ensures value { result ≡ key_from idx version }
         ensures valid { IsKey result }
@@ -76,7 +68,7 @@ impl KeyData {
         }
         KeyData {
             idx,
-            version: odd_version(version),
+            version: version | 1,
         }
     }
 
@@ -93,8 +85,6 @@ impl KeyData {
         requires { IsKey (record { index = idx; version = version }) }
         ensures { result ≡ record { index = idx; version = version } }
     {
-        // the same version, since it is odd
-        let version = odd_version(version);
         KeyData { idx, version }
     }
 
@@ -125,7 +115,7 @@ impl KeyData {
         ensures value { result ≡ self.version }
         ensures valid { IsKey self }
     {
-        self.version.get()
+        self.version
     }
 
     /// Returns the key as one number, `version * 2^32 + idx`.
@@ -141,7 +131,7 @@ impl KeyData {
         ensures value { result ≡ ffi self }
         ensures valid { IsKey self }
     {
-        u64::from(self.version.get()) << 32 | u64::from(self.idx)
+        u64::from(self.version) << 32 | u64::from(self.idx)
     }
 
     /// Returns the key of a number that `as_ffi` returned.
@@ -163,17 +153,6 @@ impl KeyData {
     }
 }
 
-/// Returns the odd one of a pair of versions.
-///
-/// The test of `NonZeroU32::new` is left out of machine code, since the lowest bit is set.
-#[tactic(auto, using(crate::proofs::General::Odd::or_one))]
-#[inline(always)]
-fn odd_version(version: u32) -> NonZeroU32
-    ensures { non_zero_u32_get result ≡ made_odd version }
-{
-    sure(NonZeroU32::new(version | 1))
-}
-
 /// Returns whether version `a` is older than version `b`, where versions of 32 bits wrap around.
 ///
 /// It is older if `(a - b) mod 2^32` is at least 2^31. So at a distance of exactly 2^31 each of the
@@ -190,69 +169,13 @@ pub fn is_older_version(a: u32, b: u32) -> bool
     a.wrapping_sub(b) >= 1 << 31
 }
 
-// Comparisons are written out. Derived ones would compare the fields that `inverse` gives, which are the
-// same for version 0, which no key has, and version 1.
-
-impl PartialEq for KeyData {
-    ghost use Rattle.std.specs.Prelude.{◌&&◌, nat_eq};
-    ghost use Rattle.std.proofs.Common.{rules};
-    ghost use Rattle.slotmap_core.specs.Words.{comparing};
-
-    ghost eq = { λ a b. nat_eq a.index b.index && nat_eq a.version b.version };
-
-    ghost laws = { Prim.search (comparing, rules) };
-
-    fn eq(&self, other: &KeyData) -> bool {
-        self.idx == other.idx && self.version == other.version
-    }
-}
-
-impl Eq for KeyData {
-    ghost use Rattle.std.proofs.Common.{rules};
-    ghost use Rattle.slotmap_core.specs.Words.{comparing};
-
-    ghost laws = { Prim.search (comparing, rules) };
-}
-
-impl PartialOrd for KeyData {
-    ghost use Rattle.std.proofs.Common.{rules};
-    ghost use Rattle.slotmap_core.specs.Words.{as_partial_cmp, comparing, key_cmp, partial_order_from_own_ties};
-
-    ghost partial_cmp = { as_partial_cmp key_cmp };
-
-    ghost laws = { partial_order_from_own_ties (Prim.search (comparing, rules))
-        (Prim.search (comparing, rules)) };
-
-    fn partial_cmp(&self, other: &KeyData) -> Option<Ordering> {
-        Some(self.cmp(other))
-    }
-}
-
-impl Ord for KeyData {
-    ghost use Rattle.std.proofs.Common.{rules};
-    ghost use Rattle.slotmap_core.specs.Words.{comparing, key_cmp};
-
-    ghost cmp = { key_cmp };
-
-    ghost total = { Prim.search (comparing, rules) };
-
-    ghost matches_partial_cmp = { λ a b. refl };
-
-    ghost matches_eq = { Prim.search (comparing, rules) };
-
-    fn cmp(&self, other: &KeyData) -> Ordering {
-        let by_index = self.idx.cmp(&other.idx);
-        by_index.then(self.version.cmp(&other.version))
-    }
-}
-
 impl Default for KeyData {
     ghost is_default = { λ k. k ≡ null_key };
 
     fn default() -> KeyData {
         KeyData {
             idx: u32::MAX,
-            version: odd_version(1),
+            version: 1,
         }
     }
 }
@@ -275,7 +198,7 @@ impl fmt::Debug for KeyData {
         if self.idx == u32::MAX {
             write!(f, "null")
         } else {
-            write!(f, "{}v{}", self.idx, self.version.get())
+            write!(f, "{}v{}", self.idx, self.version)
         }
     }
 }
