@@ -34,6 +34,17 @@ SPARSE_IMPORT = ("SecondaryMap, SparseSecondaryMap};",
 
 # What Rust wants written otherwise, in the erased text. Each stands there once.
 PATCHES = {
+    # A version is odd, so it can be kept where 0 is free for `None`: an option of a key takes 8 bytes then. Rattle's own `NonZeroU32` would
+    # do it in the source, but the borrow checker covers no caller that holds such a key beside a `&mut` in one type.
+    ("slotmap_core", "keys"): [
+        ("    version: u32,\n}", "    version: crate::rt::odd::Odd,\n}"),
+        ("            version: version | 1,", "            version: crate::rt::odd::Odd::new(version | 1),"),
+        ("        KeyData { idx, version }", "        KeyData { idx, version: crate::rt::odd::Odd::new(version) }"),
+        ("        self.version\n", "        self.version.get()\n"),
+        ("u64::from(self.version)", "u64::from(self.version.get())"),
+        ("            version: 1,", "            version: crate::rt::odd::Odd::new(1),"),
+        ("self.idx, self.version)", "self.idx, self.version.get())"),
+    ],
     # In Rust a drop lends its fields, so the index is behind a reference.
     ("slotmap_secondary", "drain"): [("map.clear_from(index);", "map.clear_from(*index);")],
     # Rust has this under `str` itself only since 1.87.
