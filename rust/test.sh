@@ -6,6 +6,7 @@
 # - the generated files are those of the sources, and the script that writes them refuses what it has to refuse;
 # - the library under the package rust/check: the project's programs print what the proved ones print; random calls beside models;
 #   refused and counted memory; a panic at each moment of each call; premises that nobody proves in Rust;
+# - a program without std, over the crate without its feature `std`: it has a panic handler of its own, so it wouldn't build over std;
 # - the examples of the documentation, as one program, and the documentation itself, without a warning;
 # - the example of the pages.
 #
@@ -18,6 +19,8 @@ python3 erase.py --check
 python3 eraser/test.py
 (cd check && cargo test --offline --quiet)
 (cd check/examples && cargo test --offline --quiet --doc)
+(cd check/no_std && cargo run --offline --quiet)
 (cd check && RUSTDOCFLAGS="-D warnings" cargo doc --offline --quiet --no-deps --lib)
+(cd check && RUSTDOCFLAGS="-D warnings" cargo doc --offline --quiet --no-deps --lib --no-default-features)
 (cd check && cargo run --offline --quiet --example names) | diff - <(sed -n '/<!-- printed -->/,/<!-- end -->/s/^    //p' ../docs/C.md | sed '/^$/d')
 echo "rust/test.sh: ok"

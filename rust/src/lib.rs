@@ -42,8 +42,9 @@
 //!
 //! # Features
 //!
-//! `serde`: keys and maps in slotmap's format. `structures`: [`list`], [`lists`], [`graph`], [`paths`], [`scene`], [`entities`] and
-//! [`scheduler`]. `runs`: lists of commands for any map. `json`: keys and lists of slots as values of serde_json.
+//! `std`, the only one that is on by default: `SparseSecondaryMap`, and the trait `Error` for the errors. Without it the crate is `no_std`, and
+//! takes `core` and `alloc`. `serde`: keys and maps in slotmap's format. `structures`: `list`, `lists`, `graph`, `paths`, `scene`, `entities`
+//! and `scheduler`. `runs`: lists of commands for any map. `json`: keys and lists of slots as values of serde_json; it includes `std`.
 #![no_std]
 #![forbid(unsafe_code)]
 #![warn(missing_docs)]
