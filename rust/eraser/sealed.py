@@ -8,7 +8,8 @@ BELOW_SEALED = {"CopyLayout": "Layout", "CloneTable": "Table", "CloneTables": "T
 # Anyone may implement these. An impl that lies spoils the answers of the calls that use it, and never memory.
 OPEN = {
     "Key": "An impl that answers otherwise from call to call, or whose `Eq`, `Ord` and `Hash` don't follow `data`, spoils the maps "
-    "that it is a key of: a call may then return another value than the one under a key, or panic. It breaks no other map.",
+    "that it is a key of: a call may then return another value than the one under a key, panic, not return, or abort the program. It "
+    "breaks no other map.",
     "Primary": "An impl that does otherwise spoils the runs and searches that are given it.",
     "Detaching": "An impl that does otherwise spoils the runs that are given it.",
     "Secondary": "An impl that does otherwise spoils the runs and searches that are given it.",

@@ -1,4 +1,4 @@
-//! The five maps of the crate [slotmap](https://docs.rs/slotmap) 1.1.1, and structures over them, in safe Rust whose calls are proved.
+//! The five maps of the crate [slotmap](https://docs.rs/slotmap) 1.1.1, and structures over them: proved sources, in safe Rust.
 //!
 //! ```
 //! use slotmap_proved::{SecondaryMap, SlotMap};
@@ -13,13 +13,15 @@
 //! ```
 //!
 //! A program over slotmap compiles with its `use` lines changed, or with this line in its `Cargo.toml`:
-//! `slotmap = { package = "slotmap-proved", version = ".." }`. Each call says where it behaves otherwise.
+//! `slotmap = { package = "slotmap-proved", version = ".." }`. The README has the few exceptions, and each call says where it behaves
+//! otherwise.
 //!
 //! # What is proved
 //!
 //! The sources are written in Rattle, which is Rust with contracts. Each function is proved to meet its contract, for all values and all
-//! sequences of calls. So no key is made twice, a removed key never becomes live again, and a call does what its page says under "Proved".
-//! These clauses are text for a reader: rustc doesn't check them.
+//! sequences of calls. So no map makes a key twice, a removed key never becomes live again, and a call does what its page says under
+//! "Proved". These clauses are text for a reader: rustc doesn't check them. A clone, and a map that is read from a list of slots, begin
+//! with the keys of that moment, and each goes on by itself; so does a map after `clone_from`.
 //!
 //! # What is erased
 //!
@@ -30,15 +32,17 @@
 //! # What is trusted
 //!
 //! The script. The few hundred lines that stand in for Rattle's vector, hash map and allocator. And rustc with std, in place of Rattle's
-//! own compiler. Two parts aren't proved: the layer with slotmap's names, where each call hands on to a proved one, and the module `lent`,
-//! which lends several values at once (`iter_mut`, `values_mut`, `get_disjoint_mut`, and lists of slots for serde). All of it is safe code,
-//! so a fault there is a wrong answer or a panic, never undefined behaviour.
+//! own compiler. Some parts aren't proved. The layer with slotmap's names hands each call on to a proved one. The module `lent` lends several
+//! values at once: `iter_mut`, `values_mut`, `get_disjoint_mut`, and lists of slots for serde. It also drains a `SparseSecondaryMap`. The
+//! key types of [`new_key_type!`] and the format of serde are written by hand too. All of it is safe code: a fault there may be a wrong
+//! answer, a panic or a call that doesn't return, and never undefined behaviour.
 //!
 //! # What a caller must keep to
 //!
-//! A contract may ask something of its caller; in Rust nobody proves that. So such a call tests it first, and panics with the reason: a key
-//! that isn't live never finds another value. `Key`, `Hash` and `Eq` of one's own types are to keep to their laws. One that doesn't gets
-//! wrong answers. If a closure, a clone or a drop panics in the middle of a call, the map can still be used.
+//! A contract may ask something of its caller; in Rust nobody proves that. So a call first tests what a program could break, and panics with
+//! the reason: a key that isn't live never finds another value. `Key`, `Hash` and `Eq` of one's own types are to keep to their laws. A map of
+//! a type that doesn't may answer wrongly, panic, abort the program or not return. Other maps aren't touched. If a closure, a clone or a drop
+//! panics in the middle of a call, the map can still be used.
 //!
 //! # Features
 //!

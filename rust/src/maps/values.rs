@@ -112,7 +112,7 @@ macro_rules! values {
             /// Returns references to the values of several keys, to change them, in the order of the keys. It returns `None` if a key has no
             /// value here, or is there twice.
             ///
-            /// It asks the proved `contains_key` about each key; the references themselves are lent by code that isn't proved, but safe.
+            /// It asks a proved look-up about each key; the references themselves are lent by code that isn't proved, but safe.
             #[doc = disjoint_cost!($map)]
             ///
             /// ```

@@ -310,7 +310,7 @@ impl fmt::Debug for KeyData {
 /// # }
 /// ```
 ///
-/// In Rattle each impl is proved to do what the clauses here say. In Rust nothing checks that. An impl that answers otherwise from call to call, or whose `Eq`, `Ord` and `Hash` don't follow `data`, spoils the maps that it is a key of: a call may then return another value than the one under a key, or panic. It breaks no other map.
+/// In Rattle each impl is proved to do what the clauses here say. In Rust nothing checks that. An impl that answers otherwise from call to call, or whose `Eq`, `Ord` and `Hash` don't follow `data`, spoils the maps that it is a key of: a call may then return another value than the one under a key, panic, not return, or abort the program. It breaks no other map.
 ///
 /// # Proved
 ///
