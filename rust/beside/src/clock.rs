@@ -23,6 +23,12 @@ fn ended() {
     std::hint::black_box(());
 }
 
+/// Work that callgrind counts.
+#[allow(dead_code)]
+pub fn count(mut work: impl FnMut()) {
+    counted(&mut work);
+}
+
 /// Nanoseconds for one unit of a piece of work that has so many: the least of the runs, after two that aren't measured.
 pub fn measure(how: Measure, units: usize, mut work: impl FnMut()) -> f64 {
     work();
