@@ -70,7 +70,23 @@ beside() { cargo "$1" --config "$out/config.toml" --quiet --manifest-path "$out/
 if [ "$calls" = --speed ]; then
     [ -n "$source" ] || { lacks "the table" "$1/src/lib.rs, of slotmap 1.1.1 on crates.io"; exit 3; }
     beside build --release
-    exec python3 "$rust/beside/speed.py" "$CARGO_TARGET_DIR/release" "$rust/README.md"
+    mkdir -p "$out/structures/src"
+    python3 "$rust/beside/structures.py" "$top/compare/bench" "$out/structures/src"
+    cp "$rust/beside/src/structures.rs" "$out/structures/src/main.rs"
+    cp "$rust/beside/src/clock.rs" "$out/structures/src"
+    cat >"$out/structures/Cargo.toml" <<TOML
+[package]
+name = "structures"
+version = "0.0.0"
+edition = "2021"
+[workspace]
+[dependencies]
+slotmap-proved = { path = "$rust", features = ["structures"] }
+petgraph = "0.6"
+TOML
+    cargo build --config "$out/config.toml" --quiet --release --manifest-path "$out/structures/Cargo.toml"
+    python3 "$rust/beside/speed.py" "$CARGO_TARGET_DIR/release" "$out/structures/src/list.txt" "$rust/README.md"
+    exit
 fi
 
 # over NAME DEPENDENCY: the programs rows and rustrun over a crate that they call slotmap.
@@ -113,7 +129,9 @@ chmod +x "$out/slotrun"
 
 echo "== rows: compare/rows over this crate"
 over ours "package = \"slotmap-proved\", path = \"$rust\""
-"$CARGO_TARGET_DIR/release/rows-ours" "$top"/crates/primary_rows/data/*.rows "$top"/crates/secondary_rows/data/*.rows | tail -n 20
+"$CARGO_TARGET_DIR/release/rows-ours" "$top"/crates/primary_rows/data/*.rows "$top"/crates/secondary_rows/data/*.rows >"$out/rows" || { grep -v 'differences;' "$out/rows"; exit 1; }
+awk '/differences;/ { for (at = 2; at <= NF; at++) if ($at ~ /^(rows|calls|differences)[,;]?$/) sum[substr($at, 1, 4)] += $(at - 1) }
+    END { printf "%d rows, %d calls, %d differences\n", sum["rows"], sum["call"], sum["diff"] }' "$out/rows"
 
 echo "== scripts: rustrun over this crate, beside the erased slotrun"
 python3 "$top/compare/scripts.py" 7 100 "$out/scripts" --kinds basic,dense,hop --lists
