@@ -39,6 +39,7 @@ from eraser import contracts, drops, errors, paths, requires, sealed
 from eraser.attributes import take_attributes
 from eraser.clauses import macro
 from eraser.documents import documented
+from eraser.prose import in_rust
 from eraser.examples import examples
 from eraser.project import IN_SHIM, LENT, LIBRARIES, LIBRARY_TREE, PATCHES, PROGRAM_TREE, PROGRAMS, TOP
 from eraser.project import files_of, refuse_unknown_crates, tell_place
@@ -156,6 +157,8 @@ def names_in_shim(file):
 
 def finished(file, text, impls):
     """The text with its docs, its prelude, its impls and its patches."""
+    if file.crate in LIBRARIES:
+        text = in_rust(text)
     text = examples(documented(text, file.crate, file.path), file.crate)
     head = re.match(r"(?:\s*//!.*\n)*", text).end()
     parts = [text[:head].rstrip("\n"), PRELUDE, text[head:].strip("\n"), *(it.rstrip("\n") for it in impls)]

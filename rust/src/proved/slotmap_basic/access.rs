@@ -76,9 +76,9 @@ impl<K: Key, V> SlotMap<K, V> {
         self.slots.get(key.data())
     }
 
-    /// Returns the value of a live key, without checking its version.
+    /// Returns the value of a live key.
     ///
-    /// The contract requires that the key is live. So this call is safe; Rust's is `unsafe`.
+    /// It looks the key up, and panics if it isn't live. So this call is safe; slotmap's is `unsafe`.
     /// Constant time.
     ///
     /// ```
@@ -148,9 +148,9 @@ impl<K: Key, V> SlotMap<K, V> {
         }
     }
 
-    /// Returns a mutable reference to the value of a live key, without checking its version.
+    /// Returns a mutable reference to the value of a live key.
     ///
-    /// The contract requires that the key is live. So this call is safe; Rust's is `unsafe`.
+    /// It looks the key up, and panics if it isn't live. So this call is safe; slotmap's is `unsafe`.
     /// Constant time.
     ///
     /// ```
@@ -186,7 +186,7 @@ impl<K: Key, V> SlotMap<K, V> {
     /// Sets the value of a live key and returns the old value.
     ///
     /// If the key isn't live, nothing changes, and the new value is returned as the error. Constant
-    /// time. Rust lacks this call.
+    /// time. slotmap lacks this call.
     ///
     /// ```
     /// # use slotmap_proved::{DefaultKey, Global, Key};
@@ -225,9 +225,9 @@ impl<K: Key, V> SlotMap<K, V> {
     /// Replaces the value of `keys[i]` by `values[i]`, for each i, and returns the old values.
     ///
     /// If one of the keys isn't live, or two are equal, nothing changes, and the new values are
-    /// returned as the error. It looks up each key and compares each two, and allocates nothing.
-    /// Its time doesn't depend on the size of the map. In Rust `get_disjoint_mut` returns
-    /// references instead.
+    /// returned as the error. It looks up each key and compares each two, and allocates nothing. Its
+    /// time doesn't depend on the size of the map. In slotmap `get_disjoint_mut` returns references
+    /// instead.
     ///
     /// ```
     /// # use slotmap_proved::{DefaultKey, Global, Key};
@@ -292,9 +292,9 @@ impl<K: Key, V> SlotMap<K, V> {
 impl<K: Key, V> Index<K> for SlotMap<K, V> {
     type Output = V;
 
-    /// Returns the value of a live key, without checking its version.
+    /// Returns the value of a live key.
     ///
-    /// The contract requires that the key is live; in Rust any other key panics. Constant time.
+    /// It looks the key up, and panics if it isn't live. Constant time.
     ///
     /// ```
     /// # use slotmap_proved::{DefaultKey, Global, Key};
@@ -316,9 +316,9 @@ impl<K: Key, V> Index<K> for SlotMap<K, V> {
 }
 
 impl<K: Key, V> IndexMut<K> for SlotMap<K, V> {
-    /// Returns a mutable reference to the value of a live key, without checking its version.
+    /// Returns a mutable reference to the value of a live key.
     ///
-    /// The contract requires that the key is live; in Rust any other key panics. Constant time.
+    /// It looks the key up, and panics if it isn't live. Constant time.
     ///
     /// ```
     /// # use slotmap_proved::{DefaultKey, Global, Key};

@@ -47,7 +47,7 @@ impl<K: Key, V> SlotMap<K, V> {
     /// Appends every live key to `out`, by ascending index.
     ///
     /// Room for all keys is allocated first. If that fails, `out` doesn't change. Linear in the number
-    /// of slots, and in the length of `out` if it has to grow. Rust lacks this call.
+    /// of slots, and in the length of `out` if it has to grow. slotmap lacks this call.
     ///
     /// ```
     /// # use slotmap_proved::{DefaultKey, Global, Key};
@@ -86,9 +86,9 @@ impl<K: Key, V> SlotMap<K, V> {
 
     /// Removes every live key, and appends the keys with their values to `out`, by ascending index.
     ///
-    /// The keys are removed as `remove` does, and detached keys stay detached. Room for all pairs
-    /// is allocated first. If that fails, neither the map nor `out` changes. Linear in the number of
-    /// slots, and in the length of `out` if it has to grow. Rust lacks this call.
+    /// The keys are removed as `remove` does, and detached keys stay detached. Room for all pairs is
+    /// allocated first. If that fails, neither the map nor `out` changes. Linear in the number of
+    /// slots, and in the length of `out` if it has to grow. slotmap lacks this call.
     ///
     /// ```
     /// # use slotmap_proved::{DefaultKey, Global, Key};

@@ -50,8 +50,8 @@ impl<K: Key, V> SlotMap<K, V> {
 
     /// Binds a detached key to a value again.
     ///
-    /// If the key isn't detached, nothing changes, and the error `NotDetached` holds the value;
-    /// Rust panics. The call allocates nothing, so it never fails with `Memory`. Constant time.
+    /// If the key isn't detached, nothing changes, and the error `NotDetached` holds the value; slotmap
+    /// panics. The call allocates nothing, so it never fails with `Memory`. Constant time.
     ///
     /// ```
     /// # use slotmap_proved::{DefaultKey, Global, Key};

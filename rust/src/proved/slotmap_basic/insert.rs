@@ -33,7 +33,7 @@ impl<K: Key, V> SlotMap<K, V> {
     /// is vacant, one is added. The capacity stays also where room was reserved.
     ///
     /// It fails with `Full` if 4294967294 keys are live, detached or retired, and with `Memory` if
-    /// memory runs out. The error holds the value, and the map holds what it held. In Rust a full
+    /// memory runs out. The error holds the value, and the map holds what it held. In slotmap a full
     /// map panics, and running out of memory aborts. Constant time, unless the vectors grow.
     ///
     /// ```
@@ -80,8 +80,8 @@ impl<K: Key, V> SlotMap<K, V> {
     /// Inserts the value that a closure returns for the new key, and returns the key.
     ///
     /// Room is made first, and if that fails, the call fails as `insert` does, without calling the
-    /// closure. Then the closure is called once, with the key that the call will return. In Rust
-    /// the closure runs before the vectors grow. Costs as `insert`.
+    /// closure. Then the closure is called once, with the key that the call will return. In slotmap the
+    /// closure runs before the vectors grow. Costs as `insert`.
     ///
     /// ```
     /// # use slotmap_proved::{DefaultKey, Global, Key};
@@ -127,8 +127,8 @@ impl<K: Key, V> SlotMap<K, V> {
     /// Inserts the value that a closure returns for the new key, or fails as the closure does.
     ///
     /// It behaves as `insert_with_key`. If the closure fails, the map holds what it held, and the
-    /// closure's error is returned in `Closure`. The next insert returns the key that the closure
-    /// was called with. Costs as `insert`. In Rust the closure's error alone is returned.
+    /// closure's error is returned in `Closure`. The next insert returns the key that the closure was
+    /// called with. Costs as `insert`. In slotmap the closure's error alone is returned.
     ///
     /// ```
     /// # use slotmap_proved::{DefaultKey, Global, Key};

@@ -11,8 +11,8 @@ use crate::proved::slotmap_slots::layout::Layout;
 impl<K: Key, V> SlotMap<K, V> {
     /// Returns the live key with this index, or `None` if no live key has it.
     ///
-    /// No two live keys have the same index. So a table beside the map may name a key by its index, in 4
-    /// bytes. Constant time; allocates nothing. Rust lacks this call.
+    /// No two live keys have the same index. So a table beside the map may name a key by its index, in
+    /// 4 bytes. Constant time; allocates nothing. slotmap lacks this call.
     ///
     /// ```
     /// # use slotmap_proved::{DefaultKey, Global, Key};

@@ -51,11 +51,11 @@ use crate::rt::std::marker::PhantomData;
 
 /// A map that makes a key for each value that is inserted.
 ///
-/// `insert` returns a new key, and the key is live until it is removed. The slot of a removed key
-/// is reused under a newer key, and the slot freed last is reused first. So a removed key is never
-/// found again, and no key is returned twice. Once its last key, of version 4294967295, is removed,
-/// a slot is retired and never used again. In Rust its versions wrap around. All this holds in any
-/// run of commands; `clone_from` and a map read from a list start anew.
+/// `insert` returns a new key, and the key is live until it is removed. The slot of a removed key is
+/// reused under a newer key, and the slot freed last is reused first. So a removed key is never found
+/// again, and no key is returned twice. Once its last key, of version 4294967295, is removed, a slot is
+/// retired and never used again. In slotmap its versions wrap around. All this holds in any run of
+/// commands; `clone_from` and a map read from a list start anew.
 ///
 /// A live key can be detached: its value is taken out, and its slot is kept until `reattach` binds
 /// the key to a value again. At most 4294967294 keys can be live, detached or retired.
@@ -346,7 +346,7 @@ impl<K: Key, V> SlotMap<K, V> {
     ///   4294967294.
     /// - `Memory`: memory runs out.
     ///
-    /// If there is room already, the call succeeds and nothing changes. Rust counts detached slots
+    /// If there is room already, the call succeeds and nothing changes. slotmap counts detached slots
     /// as free. Linear in the number of slots if the vectors grow, else constant time.
     ///
     /// ```
@@ -383,7 +383,7 @@ impl<K: Key, V> SlotMap<K, V> {
 
     /// Reserves room for `additional` more keys, as `reserve` does.
     ///
-    /// Here `reserve` returns a `Result` too; in Rust it aborts if memory runs out. Costs as
+    /// Here `reserve` returns a `Result` too; in slotmap it aborts if memory runs out. Costs as
     /// `reserve`.
     ///
     /// ```
@@ -416,7 +416,7 @@ impl<K: Key, V> SlotMap<K, V> {
     }
 }
 
-/// Prints the pairs in the order of `iter`, each key before its value. In Rust the derived `Debug`
+/// Prints the pairs in the order of `iter`, each key before its value. In slotmap the derived `Debug`
 /// prints the fields of the map.
 impl<K: Key, V: fmt::Debug> fmt::Debug for SlotMap<K, V> {
     #[inline]

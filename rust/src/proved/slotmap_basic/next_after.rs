@@ -23,9 +23,9 @@ impl<K: Key, V> SlotMap<K, V> {
     ///
     /// Calls in turn, each with the key that the last one returned, yield what [`SlotMap::iter`]
     /// yields. They borrow the map one at a time, so it can change between them. Only the index of
-    /// `key` counts: the key can be removed, detached or of another map. No live key comes after
-    /// the null key. Linear in the number of slots that it passes over, whose versions it looks at
-    /// 64 at a time; allocates nothing. Rust lacks this call.
+    /// `key` counts: the key can be removed, detached or of another map. No live key comes after the
+    /// null key. Linear in the number of slots that it passes over, whose versions it looks at 64 at a
+    /// time; allocates nothing. slotmap lacks this call.
     ///
     /// ```
     /// # use slotmap_proved::{DefaultKey, Global, Key};

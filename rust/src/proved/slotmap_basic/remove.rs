@@ -10,9 +10,9 @@ use crate::proved::slotmap_core::keys::Key;
 impl<K: Key, V> SlotMap<K, V> {
     /// Removes a live key and returns its value, or `None` if the key isn't live.
     ///
-    /// The next insert reuses the slot, under a newer key. But if the version of the key is
-    /// 4294967295, the last one, the slot is retired; in Rust its versions wrap around. Constant
-    /// time; allocates nothing.
+    /// The next insert reuses the slot, under a newer key. But if the version of the key is 4294967295,
+    /// the last one, the slot is retired; in slotmap its versions wrap around. Constant time; allocates
+    /// nothing.
     ///
     /// ```
     /// # use slotmap_proved::{DefaultKey, Global, Key};

@@ -44,8 +44,8 @@ impl KeyData {
     /// Returns the key data of an index and a version.
     ///
     /// An even version is raised to the odd one after it. The index 4294967295 gives the null key,
-    /// whatever the version. The result is that of `from_ffi` at `version * 2^32 + idx`. Constant
-    /// time. Rust lacks this call.
+    /// whatever the version. The result is that of `from_ffi` at `version * 2^32 + idx`. Constant time.
+    /// slotmap lacks this call.
     ///
     /// ```
     /// # use slotmap_proved::{Global, Key, KeyData};
@@ -79,8 +79,8 @@ impl KeyData {
     /// Returns the key data of an index and a version that are those of a key.
     ///
     /// It is for maps, which know that the parts of a slot's key are such; others call `new`. The
-    /// contract asks for an odd version and, at the greatest index, for version 1. In contrast to
-    /// `new` nothing is tested or changed. Constant time. Rust lacks this call.
+    /// contract asks for an odd version and, at the greatest index, for version 1. In contrast to `new`
+    /// nothing is tested or changed. Constant time. slotmap lacks this call.
     ///
     /// ```ignore
     /// assert_eq!(KeyData::exact(2, 3), KeyData::new(2, 3));
@@ -101,7 +101,7 @@ impl KeyData {
 
     /// Returns the index.
     ///
-    /// Constant time. Rust lacks this call.
+    /// Constant time. slotmap lacks this call.
     ///
     /// ```
     /// # use slotmap_proved::{Global, Key, KeyData};
@@ -128,7 +128,7 @@ impl KeyData {
 
     /// Returns the version, which is odd.
     ///
-    /// Constant time. Rust lacks this call.
+    /// Constant time. slotmap lacks this call.
     ///
     /// ```
     /// # use slotmap_proved::{Global, Key, KeyData};
@@ -184,8 +184,8 @@ impl KeyData {
     /// Returns the key of a number that `as_ffi` returned.
     ///
     /// Any other number is read as well. Its low 32 bits are the index. Its high 32 bits, with the
-    /// lowest bit set, are the version. If the index is 4294967295, the version becomes 1, so there
-    /// is one null key. Rust keeps the version there, so its null keys can differ. Constant time.
+    /// lowest bit set, are the version. If the index is 4294967295, the version becomes 1, so there is
+    /// one null key. slotmap keeps the version there, so its null keys can differ. Constant time.
     ///
     /// ```
     /// # use slotmap_proved::{Global, Key, KeyData};
@@ -214,8 +214,8 @@ impl KeyData {
 
 /// Returns whether version `a` is older than version `b`, where versions of 32 bits wrap around.
 ///
-/// It is older if `(a - b) mod 2^32` is at least 2^31. So at a distance of exactly 2^31 each of the
-/// two is older than the other. Constant time. In Rust it is private.
+/// It is older if `(a - b) mod 2^32` is at least 2^31. So at a distance of exactly 2^31 each of the two
+/// is older than the other. Constant time. In slotmap it is private.
 ///
 /// ```
 /// # use slotmap_proved::{Global, is_older_version, Key};
@@ -288,10 +288,8 @@ impl fmt::Debug for KeyData {
 
 /// A type of keys: a wrapper around `KeyData` and nothing more.
 ///
-/// If each map has a key type of its own, the compiler rejects a key of another map. `DefaultKey`
-/// is the key type of a map that names no other. To make a key type, copy
-/// `crates/slotmap_list/src/cursor.rt`, whose imports are those of a crate above. Rust has the macro
-/// `new_key_type!` for it.
+/// If each map has a key type of its own, the compiler rejects a key of another map. `DefaultKey` is
+/// the key type of a map that names no other. The macro `new_key_type!` makes such types.
 ///
 /// Every key type proves that it behaves as its data do:
 ///

@@ -20,9 +20,9 @@ use crate::rt::std::alloc::Global;
 
 /// A primary map: it makes a new key for each value that is inserted.
 ///
-/// Each contract says, for every key, what the call changes. It also says when the call fails, and
-/// that the map then holds the same keys and values. A call on one key takes constant time, unless
-/// the vectors grow. The methods of each map say more about cost. Rust lacks this trait.
+/// Each contract says, for every key, what the call changes. It also says when the call fails, and that
+/// the map then holds the same keys and values. A call on one key takes constant time, unless the
+/// vectors grow. The methods of each map say more about cost. slotmap lacks this trait.
 ///
 /// ```
 /// # use slotmap_proved::{DefaultKey, Global, Key};
@@ -650,7 +650,7 @@ pub trait Primary<K: Key, V>: Sized {
 /// A primary map whose keys can be detached.
 ///
 /// The value of a detached key is taken out, and its slot is kept until the key is bound to a value
-/// again. Such a map reuses the slot freed last first. Rust lacks this trait.
+/// again. Such a map reuses the slot freed last first. slotmap lacks this trait.
 ///
 /// ```
 /// # use slotmap_proved::{DefaultKey, Global, Key};

@@ -60,11 +60,11 @@ pub enum NoEntry {
 
 /// A secondary map: it holds values under keys of a primary map.
 ///
-/// It holds at most one key for each index. A newer key replaces an older one, and an older key
-/// never replaces a newer one. The null key is in no secondary map. Each contract says, for every
-/// key, what the call changes. It also says when the call fails, and what the map holds then. A call
-/// on one key takes constant time, unless slots are made or memory grows; in a sparse map only if the
-/// hasher spreads the indices. Rust lacks this trait.
+/// It holds at most one key for each index. A newer key replaces an older one, and an older key never
+/// replaces a newer one. The null key is in no secondary map. Each contract says, for every key, what
+/// the call changes. It also says when the call fails, and what the map holds then. A call on one key
+/// takes constant time, unless slots are made or memory grows; in a sparse map only if the hasher
+/// spreads the indices. slotmap lacks this trait.
 ///
 /// ```
 /// # use slotmap_proved::{DefaultKey, Global, Key};

@@ -61,7 +61,7 @@ impl<V> SlotRecord<V> {
 /// - `Inconsistent(i)`: slot i is the first with a value and an even version, or with no value and
 ///   an odd version.
 ///
-/// It never fails with `Memory`. At most one pass over the list. Rust lacks this call.
+/// It never fails with `Memory`. At most one pass over the list. slotmap lacks this call.
 ///
 /// ```
 /// # use slotmap_proved::{Global, Key, list};

@@ -89,9 +89,9 @@ impl<K: Key, V> DenseSlotMap<K, V> {
         Some(&self.values[position as usize])
     }
 
-    /// Returns the value of a live key, without checking its version.
+    /// Returns the value of a live key.
     ///
-    /// The contract requires that the key is live. So this call is safe; Rust's is `unsafe`.
+    /// It looks the key up, and panics if it isn't live. So this call is safe; slotmap's is `unsafe`.
     /// Constant time.
     ///
     /// ```
@@ -162,9 +162,9 @@ impl<K: Key, V> DenseSlotMap<K, V> {
         }
     }
 
-    /// Returns a mutable reference to the value of a live key, without checking its version.
+    /// Returns a mutable reference to the value of a live key.
     ///
-    /// The contract requires that the key is live. So this call is safe; Rust's is `unsafe`.
+    /// It looks the key up, and panics if it isn't live. So this call is safe; slotmap's is `unsafe`.
     /// Constant time.
     ///
     /// ```
@@ -201,7 +201,7 @@ impl<K: Key, V> DenseSlotMap<K, V> {
     /// Sets the value of a live key and returns the old value.
     ///
     /// If the key isn't live, nothing changes, and the new value is returned as the error. Constant
-    /// time. Rust lacks this call.
+    /// time. slotmap lacks this call.
     ///
     /// ```
     /// # use slotmap_proved::{DefaultKey, Global, Key};
@@ -240,8 +240,8 @@ impl<K: Key, V> DenseSlotMap<K, V> {
     /// Replaces the value of `keys[i]` by `values[i]`, for each i, and returns the old values.
     ///
     /// If one of the keys isn't live, or two are equal, nothing changes, and the new values are
-    /// returned as the error. It looks up each key and compares each two, and allocates nothing.
-    /// Its time doesn't depend on the size of the map. Rust lacks this call.
+    /// returned as the error. It looks up each key and compares each two, and allocates nothing. Its
+    /// time doesn't depend on the size of the map. slotmap lacks this call.
     ///
     /// ```
     /// # use slotmap_proved::{DefaultKey, Global, Key};
@@ -275,9 +275,9 @@ impl<K: Key, V> DenseSlotMap<K, V> {
 
     /// Returns whether each key is live and no two are equal.
     ///
-    /// If it returns `true`, `replace_disjoint` and `get_disjoint_mut` succeed with these keys;
-    /// else they fail. It looks up each key and compares each two, and allocates nothing. Rust
-    /// lacks this call.
+    /// If it returns `true`, `replace_disjoint` and `get_disjoint_mut` succeed with these keys; else
+    /// they fail. It looks up each key and compares each two, and allocates nothing. slotmap lacks this
+    /// call.
     ///
     /// ```
     /// # use slotmap_proved::{DefaultKey, Global, Key};
@@ -330,9 +330,9 @@ impl<K: Key, V> DenseSlotMap<K, V> {
     /// Returns mutable references to the values of two keys, or `None` if one isn't live or they
     /// are equal.
     ///
-    /// The contract says what the references show. It doesn't say what the map holds once they end,
-    /// nor after `None`. A caller who needs that uses [`DenseSlotMap::replace_disjoint`], or calls
-    /// [`DenseSlotMap::can_replace`] first. In Rust there may be any number of keys. Constant time;
+    /// The contract says what the references show. It doesn't say what the map holds once they end, nor
+    /// after `None`. A caller who needs that uses [`DenseSlotMap::replace_disjoint`], or calls
+    /// [`DenseSlotMap::can_replace`] first. In slotmap there may be any number of keys. Constant time;
     /// allocates nothing.
     ///
     /// ```
@@ -372,7 +372,7 @@ impl<K: Key, V> DenseSlotMap<K, V> {
     /// Returns mutable references to the values of two keys that are live and not equal, without
     /// checking their versions.
     ///
-    /// The contract requires that the keys are live and not equal. So this call is safe; Rust's is
+    /// It panics if a key isn't live, or if the two are equal. So this call is safe; slotmap's is
     /// `unsafe`. As at `get_disjoint_mut`, the contract doesn't say what the map holds once the
     /// references end. Constant time.
     ///
@@ -421,9 +421,9 @@ impl<K: Key, V> DenseSlotMap<K, V> {
 impl<K: Key, V> Index<K> for DenseSlotMap<K, V> {
     type Output = V;
 
-    /// Returns the value of a live key, without checking its version.
+    /// Returns the value of a live key.
     ///
-    /// The contract requires that the key is live; in Rust any other key panics. Constant time.
+    /// It looks the key up, and panics if it isn't live. Constant time.
     ///
     /// ```
     /// # use slotmap_proved::{DefaultKey, Global, Key};
@@ -445,9 +445,9 @@ impl<K: Key, V> Index<K> for DenseSlotMap<K, V> {
 }
 
 impl<K: Key, V> IndexMut<K> for DenseSlotMap<K, V> {
-    /// Returns a mutable reference to the value of a live key, without checking its version.
+    /// Returns a mutable reference to the value of a live key.
     ///
-    /// The contract requires that the key is live; in Rust any other key panics. Constant time.
+    /// It looks the key up, and panics if it isn't live. Constant time.
     ///
     /// ```
     /// # use slotmap_proved::{DefaultKey, Global, Key};

@@ -49,7 +49,7 @@ impl<K: Key, V> DenseSlotMap<K, V> {
     /// Appends every live key to `out`, in packed order.
     ///
     /// Room for all keys is allocated first. If that fails, `out` doesn't change. Linear in the number
-    /// of live keys, and in the length of `out` if it has to grow. Rust lacks this call.
+    /// of live keys, and in the length of `out` if it has to grow. slotmap lacks this call.
     ///
     /// ```
     /// # use slotmap_proved::{DefaultKey, Global, Key};
@@ -87,9 +87,9 @@ impl<K: Key, V> DenseSlotMap<K, V> {
     /// Removes every live key, and appends the keys with their values to `out`, from the back of
     /// the packed order.
     ///
-    /// The keys are removed as `remove` does, and detached keys stay detached. Room for all pairs
-    /// is allocated first. If that fails, neither the map nor `out` changes. Linear in the number of
-    /// live keys, and in the length of `out` if it has to grow. Rust lacks this call.
+    /// The keys are removed as `remove` does, and detached keys stay detached. Room for all pairs is
+    /// allocated first. If that fails, neither the map nor `out` changes. Linear in the number of live
+    /// keys, and in the length of `out` if it has to grow. slotmap lacks this call.
     ///
     /// ```
     /// # use slotmap_proved::{DefaultKey, Global, Key};

@@ -54,10 +54,10 @@ impl<K: Key, V> DenseSlotMap<K, V> {
 
     /// Binds a detached key to a value again.
     ///
-    /// The key and the value are appended to the packed order. If the key isn't detached, it fails
-    /// with `NotDetached`; Rust panics. It fails with `Memory` if the lists of keys and values have
-    /// to grow and memory runs out. The error holds the value, and the map holds what it held.
-    /// If room was reserved, it doesn't fail with `Memory`, and the capacity stays. Constant time, unless the
+    /// The key and the value are appended to the packed order. If the key isn't detached, it fails with
+    /// `NotDetached`; slotmap panics. It fails with `Memory` if the lists of keys and values have to
+    /// grow and memory runs out. The error holds the value, and the map holds what it held. If room was
+    /// reserved, it doesn't fail with `Memory`, and the capacity stays. Constant time, unless the
     /// vectors grow.
     ///
     /// ```

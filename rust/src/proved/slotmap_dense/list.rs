@@ -31,11 +31,11 @@ impl<K: Key, V> DenseSlotMap<K, V> {
     /// [`SlotRecord`] says what the record of each slot is. A detached key is forgotten: its slot
     /// is written as if the key were removed. The packed order isn't written.
     ///
-    /// It fails with `OutOfMemory` if memory runs out for the list or for a list of positions
-    /// beside it, or if the clone of a value fails, for whatever reason. Room for both lists is
-    /// allocated first, and each value is cloned once. Linear in the number of slots. `from_slots`
-    /// reads the list back, except that of a map with 4294967294 slots, which is too long. In Rust
-    /// `Serialize` writes the same records.
+    /// It fails with `OutOfMemory` if memory runs out for the list or for a list of positions beside
+    /// it, or if the clone of a value fails, for whatever reason. Room for both lists is allocated
+    /// first, and each value is cloned once. Linear in the number of slots. `from_slots` reads the list
+    /// back, except that of a map with 4294967294 slots, which is too long. In slotmap `Serialize`
+    /// writes the same records.
     ///
     /// ```
     /// # use slotmap_proved::{DefaultKey, Global, Key, list};
@@ -102,7 +102,7 @@ impl<K: Key, V> DenseSlotMap<K, V> {
     ///   and an odd version.
     /// - `Memory`: memory runs out.
     ///
-    /// Two passes over the list, and two over a list of positions of the same length. In Rust
+    /// Two passes over the list, and two over a list of positions of the same length. In slotmap
     /// `Deserialize` reads such a list, and version 0 is that of a vacant slot, so the versions of a
     /// slot wrap around.
     ///

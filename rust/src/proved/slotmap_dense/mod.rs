@@ -46,11 +46,11 @@ use crate::rt::std::fmt;
 
 /// A map that makes a key for each value that is inserted, and stores the values with no gaps.
 ///
-/// `insert` returns a new key, and the key is live until it is removed. The slot of a removed key
-/// is reused under a newer key, and the slot freed last is reused first. So a removed key is never
-/// found again, and no key is returned twice. Once its last key, of version 4294967295, is removed,
-/// a slot is retired and never used again. In Rust its versions wrap around. All this holds in any
-/// run of commands; `clone_from` and a map read from a list start anew.
+/// `insert` returns a new key, and the key is live until it is removed. The slot of a removed key is
+/// reused under a newer key, and the slot freed last is reused first. So a removed key is never found
+/// again, and no key is returned twice. Once its last key, of version 4294967295, is removed, a slot is
+/// retired and never used again. In slotmap its versions wrap around. All this holds in any run of
+/// commands; `clone_from` and a map read from a list start anew.
 ///
 /// The live keys are in one list, and their values are at the same positions in another list. This
 /// is the packed order. An insert appends to both lists. A removal moves the last pair to the
@@ -373,7 +373,7 @@ impl<K: Key, V> DenseSlotMap<K, V> {
     ///   4294967294.
     /// - `Memory`: memory runs out.
     ///
-    /// If there is room already, the call succeeds and nothing changes. Rust counts detached slots
+    /// If there is room already, the call succeeds and nothing changes. slotmap counts detached slots
     /// as free. Linear in the number of slots if the vectors grow, else constant time.
     ///
     /// ```
@@ -412,7 +412,7 @@ impl<K: Key, V> DenseSlotMap<K, V> {
 
     /// Reserves room for `additional` more keys, as `reserve` does.
     ///
-    /// Here `reserve` returns a `Result` too; in Rust it aborts if memory runs out. Costs as
+    /// Here `reserve` returns a `Result` too; in slotmap it aborts if memory runs out. Costs as
     /// `reserve`.
     ///
     /// ```
@@ -444,7 +444,7 @@ impl<K: Key, V> DenseSlotMap<K, V> {
     }
 }
 
-/// Prints the pairs in the order of `iter`, each key before its value. In Rust the derived `Debug`
+/// Prints the pairs in the order of `iter`, each key before its value. In slotmap the derived `Debug`
 /// prints the fields of the map.
 impl<K: Key, V: fmt::Debug> fmt::Debug for DenseSlotMap<K, V> {
     #[inline]

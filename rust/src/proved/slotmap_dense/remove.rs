@@ -31,9 +31,8 @@ impl<K: Key, V> DenseSlotMap<K, V> {
     /// Removes a live key and returns its value, or `None` if the key isn't live.
     ///
     /// The last pair moves to the position of the removed one in the packed order. The next insert
-    /// reuses the slot, under a newer key. But if the version of the key is 4294967295, the last
-    /// one, the slot is retired; in Rust its versions wrap around. Constant time; allocates
-    /// nothing.
+    /// reuses the slot, under a newer key. But if the version of the key is 4294967295, the last one,
+    /// the slot is retired; in slotmap its versions wrap around. Constant time; allocates nothing.
     ///
     /// ```
     /// # use slotmap_proved::{DefaultKey, Global, Key};

@@ -245,9 +245,9 @@ impl<K: Key, E, T: Tables<K>> World<K, E, T> {
     /// Calls `f` once for each component of a kind, which it may change, and takes the component off the
     /// entity where it returns false.
     ///
-    /// The caller has to prove that `f` may be called for each component of the kind, and for no other. The
-    /// components come in some order. No room is lost, and the capacity of a `SecondaryMap` stays. It takes
-    /// time linear in the size of the table.
+    /// In Rattle the caller proves that `f` may be called for each component of the kind, and for no
+    /// other. The components come in some order. No room is lost, and the capacity of a `SecondaryMap`
+    /// stays. It takes time linear in the size of the table.
     ///
     /// ```
     /// # use slotmap_proved::{DefaultKey, Global, Key};

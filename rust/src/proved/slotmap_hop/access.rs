@@ -98,9 +98,9 @@ impl<K: Key, V> HopSlotMap<K, V> {
         }
     }
 
-    /// Returns the value of a live key, without checking its version.
+    /// Returns the value of a live key.
     ///
-    /// The contract requires that the key is live. So this call is safe; Rust's is `unsafe`.
+    /// It looks the key up, and panics if it isn't live. So this call is safe; slotmap's is `unsafe`.
     /// Constant time.
     ///
     /// ```
@@ -178,9 +178,9 @@ impl<K: Key, V> HopSlotMap<K, V> {
         }
     }
 
-    /// Returns a mutable reference to the value of a live key, without checking its version.
+    /// Returns a mutable reference to the value of a live key.
     ///
-    /// The contract requires that the key is live. So this call is safe; Rust's is `unsafe`.
+    /// It looks the key up, and panics if it isn't live. So this call is safe; slotmap's is `unsafe`.
     /// Constant time.
     ///
     /// ```
@@ -223,7 +223,7 @@ impl<K: Key, V> HopSlotMap<K, V> {
     /// Sets the value of a live key and returns the old value.
     ///
     /// If the key isn't live, nothing changes, and the new value is returned as the error. Constant
-    /// time. Rust lacks this call.
+    /// time. slotmap lacks this call.
     ///
     /// ```
     /// # use slotmap_proved::{DefaultKey, Global, Key};
@@ -262,9 +262,9 @@ impl<K: Key, V> HopSlotMap<K, V> {
     /// Replaces the value of `keys[i]` by `values[i]`, for each i, and returns the old values.
     ///
     /// If one of the keys isn't live, or two are equal, nothing changes, and the new values are
-    /// returned as the error. It looks up each key and compares each two, and allocates nothing.
-    /// Its time doesn't depend on the size of the map. In Rust `get_disjoint_mut` returns
-    /// references instead.
+    /// returned as the error. It looks up each key and compares each two, and allocates nothing. Its
+    /// time doesn't depend on the size of the map. In slotmap `get_disjoint_mut` returns references
+    /// instead.
     ///
     /// ```
     /// # use slotmap_proved::{DefaultKey, Global, Key};
@@ -329,9 +329,9 @@ impl<K: Key, V> HopSlotMap<K, V> {
 impl<K: Key, V> Index<K> for HopSlotMap<K, V> {
     type Output = V;
 
-    /// Returns the value of a live key, without checking its version.
+    /// Returns the value of a live key.
     ///
-    /// The contract requires that the key is live; in Rust any other key panics. Constant time.
+    /// It looks the key up, and panics if it isn't live. Constant time.
     ///
     /// ```
     /// # use slotmap_proved::{DefaultKey, Global, Key};
@@ -353,9 +353,9 @@ impl<K: Key, V> Index<K> for HopSlotMap<K, V> {
 }
 
 impl<K: Key, V> IndexMut<K> for HopSlotMap<K, V> {
-    /// Returns a mutable reference to the value of a live key, without checking its version.
+    /// Returns a mutable reference to the value of a live key.
     ///
-    /// The contract requires that the key is live; in Rust any other key panics. Constant time.
+    /// It looks the key up, and panics if it isn't live. Constant time.
     ///
     /// ```
     /// # use slotmap_proved::{DefaultKey, Global, Key};

@@ -83,7 +83,7 @@ impl<K: Key, V> HopSlotMap<K, V> {
     ///
     /// Room for all keys is allocated first. If that fails, `out` doesn't change. A block of vacant
     /// slots is skipped in one step. At most linear in the number of slots, and in the length of `out`
-    /// if it has to grow. Rust lacks this call.
+    /// if it has to grow. slotmap lacks this call.
     ///
     /// ```
     /// # use slotmap_proved::{DefaultKey, Global, Key};
@@ -124,7 +124,7 @@ impl<K: Key, V> HopSlotMap<K, V> {
     ///
     /// The keys are removed as `remove` does. Room for all pairs is allocated first. If that fails,
     /// neither the map nor `out` changes. A block of vacant slots is skipped in one step. At most
-    /// linear in the number of slots, and in the length of `out` if it has to grow. Rust lacks this
+    /// linear in the number of slots, and in the length of `out` if it has to grow. slotmap lacks this
     /// call.
     ///
     /// ```

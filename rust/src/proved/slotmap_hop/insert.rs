@@ -74,9 +74,9 @@ impl<K: Key, V> HopSlotMap<K, V> {
     /// block of slot 0 if the list is empty. Then the call can't fail, and the capacity stays. If no
     /// slot is vacant, one is added. The capacity stays also where room was reserved.
     ///
-    /// It fails with `Full` if 4294967294 keys are live or retired, and with `Memory` if memory
-    /// runs out. The error holds the value, and the map holds what it held. In Rust a full map
-    /// panics, and running out of memory aborts. Constant time, unless the vector grows.
+    /// It fails with `Full` if 4294967294 keys are live or retired, and with `Memory` if memory runs
+    /// out. The error holds the value, and the map holds what it held. In slotmap a full map panics,
+    /// and running out of memory aborts. Constant time, unless the vector grows.
     ///
     /// ```
     /// # use slotmap_proved::{DefaultKey, Global, Key};
@@ -124,8 +124,8 @@ impl<K: Key, V> HopSlotMap<K, V> {
     /// Inserts the value that a closure returns for the new key, and returns the key.
     ///
     /// Room is made first, and if that fails, the call fails as `insert` does, without calling the
-    /// closure. Then the closure is called once, with the key that the call will return. In Rust
-    /// the closure runs before the vector grows. Costs as `insert`.
+    /// closure. Then the closure is called once, with the key that the call will return. In slotmap the
+    /// closure runs before the vector grows. Costs as `insert`.
     ///
     /// ```
     /// # use slotmap_proved::{DefaultKey, Global, Key};
@@ -176,8 +176,8 @@ impl<K: Key, V> HopSlotMap<K, V> {
     /// Inserts the value that a closure returns for the new key, or fails as the closure does.
     ///
     /// It behaves as `insert_with_key`. If the closure fails, the map holds what it held, and the
-    /// closure's error is returned in `Closure`. The next insert returns the key that the closure
-    /// was called with. Costs as `insert`. In Rust the closure's error alone is returned.
+    /// closure's error is returned in `Closure`. The next insert returns the key that the closure was
+    /// called with. Costs as `insert`. In slotmap the closure's error alone is returned.
     ///
     /// ```
     /// # use slotmap_proved::{DefaultKey, Global, Key};

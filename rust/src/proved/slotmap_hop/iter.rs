@@ -96,7 +96,7 @@ impl<'a, K, V> Iter<'a, K, V> {
 
     /// Returns how many slots `next` has read. A clone goes on from the count of its original.
     ///
-    /// Constant time. Rust lacks this call.
+    /// Constant time. slotmap lacks this call.
     ///
     /// ```
     /// # use slotmap_proved::{DefaultKey, Global, Key};
@@ -236,7 +236,7 @@ impl<'a, K, V> Keys<'a, K, V> {
 
     /// Returns how many slots `next` has read. A clone goes on from the count of its original.
     ///
-    /// Constant time. Rust lacks this call.
+    /// Constant time. slotmap lacks this call.
     ///
     /// ```
     /// # use slotmap_proved::{DefaultKey, Global, Key};
@@ -370,7 +370,7 @@ impl<'a, K, V> Values<'a, K, V> {
 
     /// Returns how many slots `next` has read. A clone goes on from the count of its original.
     ///
-    /// Constant time. Rust lacks this call.
+    /// Constant time. slotmap lacks this call.
     ///
     /// ```
     /// # use slotmap_proved::{DefaultKey, Global, Key};

@@ -45,10 +45,10 @@ impl<K: Key, V> HopSlotMap<K, V> {
     ///
     /// [`SlotRecord`] says what the record of each slot is.
     ///
-    /// It fails with `OutOfMemory` if memory runs out for the list, or if the clone of a value
-    /// fails, for whatever reason. Room for the whole list is allocated first, and each value is
-    /// cloned once. Linear in the number of slots. `from_slots` reads the list back, except that of
-    /// a map with 4294967294 slots, which is too long. In Rust `Serialize` writes the same records.
+    /// It fails with `OutOfMemory` if memory runs out for the list, or if the clone of a value fails,
+    /// for whatever reason. Room for the whole list is allocated first, and each value is cloned once.
+    /// Linear in the number of slots. `from_slots` reads the list back, except that of a map with
+    /// 4294967294 slots, which is too long. In slotmap `Serialize` writes the same records.
     ///
     /// ```
     /// # use slotmap_proved::{DefaultKey, Global, Key, list};
@@ -116,8 +116,8 @@ impl<K: Key, V> HopSlotMap<K, V> {
     ///   and an odd version.
     /// - `Memory`: memory runs out.
     ///
-    /// Two passes over the list. In Rust `Deserialize` reads such a list, and version 0 is that of
-    /// a vacant slot, so the versions of a slot wrap around.
+    /// Two passes over the list. In slotmap `Deserialize` reads such a list, and version 0 is that of a
+    /// vacant slot, so the versions of a slot wrap around.
     ///
     /// ```
     /// # use slotmap_proved::{DefaultKey, Global, Key, KeyData, list};

@@ -54,11 +54,11 @@ use crate::rt::std::marker::PhantomData;
 
 /// A map that makes a key for each value that is inserted, with iterators that skip vacant slots.
 ///
-/// `insert` returns a new key, and the key is live until it is removed. The slot of a removed key
-/// is reused under a newer key. So a removed key is never found again, and no key is returned
-/// twice. Once its last key, of version 4294967295, is removed, a slot is retired and never used
-/// again. In Rust its versions wrap around. All this holds in any run of commands; `clone_from` and
-/// a map read from a list start anew. At most 4294967294 keys can be live or retired.
+/// `insert` returns a new key, and the key is live until it is removed. The slot of a removed key is
+/// reused under a newer key. So a removed key is never found again, and no key is returned twice. Once
+/// its last key, of version 4294967295, is removed, a slot is retired and never used again. In slotmap
+/// its versions wrap around. All this holds in any run of commands; `clone_from` and a map read from a
+/// list start anew. At most 4294967294 keys can be live or retired.
 ///
 /// Neighbouring vacant slots form a block, and the blocks form a list. An insert uses the last slot
 /// of the first block in the list, or of the block of slot 0 if the list is empty. A removal adds its
@@ -411,7 +411,7 @@ impl<K: Key, V> HopSlotMap<K, V> {
 
     /// Reserves room for `additional` more keys, as `reserve` does.
     ///
-    /// Here `reserve` returns a `Result` too; in Rust it aborts if memory runs out. Costs as
+    /// Here `reserve` returns a `Result` too; in slotmap it aborts if memory runs out. Costs as
     /// `reserve`.
     ///
     /// ```
@@ -444,7 +444,7 @@ impl<K: Key, V> HopSlotMap<K, V> {
     }
 }
 
-/// Prints the pairs in the order of `iter`, each key before its value. In Rust the derived `Debug`
+/// Prints the pairs in the order of `iter`, each key before its value. In slotmap the derived `Debug`
 /// prints the fields of the map.
 impl<K: Key, V: fmt::Debug> fmt::Debug for HopSlotMap<K, V> {
     #[inline]

@@ -11,10 +11,10 @@ use crate::proved::slotmap_core::keys::Key;
 impl<K: Key, V> HopSlotMap<K, V> {
     /// Removes a live key and returns its value, or `None` if the key isn't live.
     ///
-    /// The slot joins the blocks of vacant slots beside it, or becomes a new block at the end of
-    /// their list. A later insert reuses it, under a newer key. But if the version of the key is
-    /// 4294967295, the last one, the slot is retired and joins no block; in Rust its versions wrap
-    /// around. Constant time; allocates nothing.
+    /// The slot joins the blocks of vacant slots beside it, or becomes a new block at the end of their
+    /// list. A later insert reuses it, under a newer key. But if the version of the key is 4294967295,
+    /// the last one, the slot is retired and joins no block; in slotmap its versions wrap around.
+    /// Constant time; allocates nothing.
     ///
     /// ```
     /// # use slotmap_proved::{DefaultKey, Global, Key};

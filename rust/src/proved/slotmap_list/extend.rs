@@ -11,11 +11,12 @@ use crate::rt::std::alloc::Global;
 impl<K: Key, T> StableList<K, T> {
     /// Adds each value of an iterator at the back, in its order.
     ///
-    /// If a value can't be added, the error holds it. It is `Full` if the list then has as many elements
-    /// as a map can hold, counting those whose slots are retired, else `Memory`. The values before it are
-    /// then in the list, and the rest of the iterator is dropped. It can't fail while the values fit into
-    /// the room or the vacant slots, and the capacity stays then. The iterator has to end. It takes
-    /// constant time a value, unless a vector grows. In Rust this is the trait `Extend`.
+    /// If a value can't be added, the error holds it. It is `Full` if the list then has as many
+    /// elements as a map can hold, counting those whose slots are retired, else `Memory`. The values
+    /// before it are then in the list, and the rest of the iterator is dropped. It can't fail while the
+    /// values fit into the room or the vacant slots, and the capacity stays then. The iterator has to
+    /// end. It takes constant time a value, unless a vector grows. In slotmap this is the trait
+    /// `Extend`.
     ///
     /// ```
     /// # use slotmap_proved::{Global, Key, list};
@@ -70,8 +71,8 @@ impl<K: Key, T> StableList<K, T> {
     /// If a value can't be added, there is no list. The values before it are dropped, and so is the
     /// rest of the iterator. The error holds that value. It is `Full` if there were as many values
     /// before it as a map can hold, 4294967294, else `Memory`. It is `None` only if the iterator has no
-    /// value. The iterator has to end. It takes constant time a value, unless a vector grows. In Rust
-    /// this is `FromIterator`.
+    /// value. The iterator has to end. It takes constant time a value, unless a vector grows. In
+    /// slotmap this is `FromIterator`.
     ///
     /// ```
     /// # use slotmap_proved::{Global, Key, list};

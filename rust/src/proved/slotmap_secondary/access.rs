@@ -83,8 +83,8 @@ impl<K: Key, V> SecondaryMap<K, V> {
 
     /// Returns a reference to the value of a key that is in the map.
     ///
-    /// The caller has to prove that the key is in the map. So the call is safe, where Rust's is
-    /// `unsafe`. Takes constant time, and compares no versions.
+    /// It looks the key up, and panics if it isn't in the map. So the call is safe, where slotmap's is
+    /// `unsafe`. Takes constant time.
     ///
     /// ```
     /// # use slotmap_proved::{DefaultKey, Global, Key};
@@ -160,8 +160,8 @@ impl<K: Key, V> SecondaryMap<K, V> {
 
     /// Returns a mutable reference to the value of a key that is in the map.
     ///
-    /// The caller has to prove that the key is in the map. So the call is safe, where Rust's is
-    /// `unsafe`. Takes constant time, and compares no versions.
+    /// It looks the key up, and panics if it isn't in the map. So the call is safe, where slotmap's is
+    /// `unsafe`. Takes constant time.
     ///
     /// ```
     /// # use slotmap_proved::{DefaultKey, Global, Key};
@@ -202,7 +202,7 @@ impl<K: Key, V> SecondaryMap<K, V> {
     /// nothing changes, and the error holds `values`.
     ///
     /// It allocates nothing. It looks up each key, and compares each with each; so its time doesn't
-    /// depend on the size of the map. Rust's `get_disjoint_mut` returns mutable references instead.
+    /// depend on the size of the map. slotmap's `get_disjoint_mut` returns mutable references instead.
     ///
     /// ```
     /// # use slotmap_proved::{DefaultKey, Global, Key};
@@ -272,8 +272,7 @@ impl<K: Key, V> Index<K> for SecondaryMap<K, V> {
 
     /// Returns a reference to the value of a key that is in the map.
     ///
-    /// The caller has to prove that the key is in the map; Rust panics if it isn't. Takes constant
-    /// time.
+    /// It looks the key up, and panics if it isn't in the map. Takes constant time.
     ///
     /// ```
     /// # use slotmap_proved::{DefaultKey, Global, Key};
@@ -300,8 +299,7 @@ impl<K: Key, V> Index<K> for SecondaryMap<K, V> {
 impl<K: Key, V> IndexMut<K> for SecondaryMap<K, V> {
     /// Returns a mutable reference to the value of a key that is in the map.
     ///
-    /// The caller has to prove that the key is in the map; Rust panics if it isn't. Takes constant
-    /// time, and compares no versions.
+    /// It looks the key up, and panics if it isn't in the map. Takes constant time.
     ///
     /// ```
     /// # use slotmap_proved::{DefaultKey, Global, Key};

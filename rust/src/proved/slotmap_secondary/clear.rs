@@ -10,8 +10,8 @@ use crate::proved::slotmap_core::keys::Key;
 impl<K: Key, V> SecondaryMap<K, V> {
     /// Removes all keys and drops their values.
     ///
-    /// The capacity stays the same. Takes time linear in the number of slots. In Rust a key at
-    /// index 0 stays in the map.
+    /// The capacity stays the same. Takes time linear in the number of slots. In slotmap a key at index
+    /// 0 stays in the map.
     ///
     /// ```
     /// # use slotmap_proved::{DefaultKey, Global, Key};

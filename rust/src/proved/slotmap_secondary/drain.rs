@@ -86,9 +86,9 @@ impl<K: Key, V> SecondaryMap<K, V> {
     /// Returns an iterator that removes the keys and yields them with their values, by ascending
     /// index.
     ///
-    /// The iterator may be dropped at any step. Then the keys that are left are removed too, so the
-    /// map is empty. The capacity stays the same. All steps and the drop together read each slot
-    /// once. In Rust a key at index 0 stays in the map.
+    /// The iterator may be dropped at any step. Then the keys that are left are removed too, so the map
+    /// is empty. The capacity stays the same. All steps and the drop together read each slot once. In
+    /// slotmap a key at index 0 stays in the map.
     ///
     /// ```
     /// # use slotmap_proved::{DefaultKey, Global, Key};

@@ -44,8 +44,8 @@ impl<K: Key, V> SecondaryMap<K, V> {
     /// time if no slot is made.
     ///
     /// After an error, and if there is no entry, the map is unchanged. No clause says either. If a
-    /// proof needs it, call `try_entry`. In Rust a vacant slot has no entry for versions from 2147483648 on; here it has
-    /// a vacant one.
+    /// proof needs it, call `try_entry`. In slotmap a vacant slot has no entry for versions from
+    /// 2147483648 on; here it has a vacant one.
     ///
     /// ```
     /// # use slotmap_proved::{DefaultKey, Global, Key};
@@ -91,8 +91,8 @@ impl<K: Key, V> SecondaryMap<K, V> {
 
     /// Returns the entry of a key, with `Older` as an error if `entry` would return `None`.
     ///
-    /// `Memory` is its error if the allocation fails. After either error the map is unchanged.
-    /// Apart from that it does the same as `entry`, at the same cost. Rust lacks this call.
+    /// `Memory` is its error if the allocation fails. After either error the map is unchanged. Apart
+    /// from that it does the same as `entry`, at the same cost. slotmap lacks this call.
     ///
     /// ```
     /// # use slotmap_proved::{DefaultKey, Global, Key};
@@ -177,7 +177,7 @@ impl<'a, K: Key, V> Entry<'a, K, V> {
 
     /// Calls `f` on the value if the key has one, and returns the entry.
     ///
-    /// If the key has no value, `f` isn't called. The caller has to prove that `f` may be called on
+    /// If the key has no value, `f` isn't called. In Rattle the caller proves that `f` may be called on
     /// the value that the key has, and on no other. Takes constant time beside `f`.
     ///
     /// ```

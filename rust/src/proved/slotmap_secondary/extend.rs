@@ -13,9 +13,9 @@ impl<K: Key, V> SecondaryMap<K, V> {
     ///
     /// A pair whose key is null, or older than the key at its index, is dropped. If an allocation
     /// fails, the error holds the pair that it was for. The pairs before it have been inserted then,
-    /// and the rest of the iterator is dropped. At an index up to `capacity()` it can't fail, and no slot
-    /// is made beyond the largest index of a pair. The iterator has to end. Each pair costs what
-    /// `insert` does. In Rust this is the trait `Extend`.
+    /// and the rest of the iterator is dropped. At an index up to `capacity()` it can't fail, and no
+    /// slot is made beyond the largest index of a pair. The iterator has to end. Each pair costs what
+    /// `insert` does. In slotmap this is the trait `Extend`.
     ///
     /// ```
     /// # use slotmap_proved::{DefaultKey, Global, Key};
@@ -62,8 +62,8 @@ impl<K: Key, V> SecondaryMap<K, V> {
 
     /// Inserts each pair of an iterator over references, with a copy of the value.
     ///
-    /// Apart from that it does the same as `extend`, at the same cost. In Rust this is a second
-    /// impl of `Extend`.
+    /// Apart from that it does the same as `extend`, at the same cost. In slotmap this is a second impl
+    /// of `Extend`.
     ///
     /// ```
     /// # use slotmap_proved::{DefaultKey, Global, Key};
@@ -118,7 +118,8 @@ impl<K: Key, V> SecondaryMap<K, V> {
     ///
     /// If an allocation fails there is no map: the pairs before the fault and the rest of the iterator
     /// are dropped. The error holds the pair that memory ran out for, or `None` if not even an empty
-    /// map could be made. The iterator has to end. Costs as `extend`. In Rust this is `FromIterator`.
+    /// map could be made. The iterator has to end. Costs as `extend`. In slotmap this is
+    /// `FromIterator`.
     ///
     /// ```
     /// # use slotmap_proved::{DefaultKey, Global, Key};

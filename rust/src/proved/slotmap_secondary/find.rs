@@ -38,7 +38,7 @@ impl<K: Key, V> SecondaryMap<K, V> {
 
     /// Returns the key at an index, or `None` if no key of this index is in the map.
     ///
-    /// Constant time; allocates nothing. Rust lacks this call.
+    /// Constant time; allocates nothing. slotmap lacks this call.
     ///
     /// ```
     /// # use slotmap_proved::{DefaultKey, Global, Key};

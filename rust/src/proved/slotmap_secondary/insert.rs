@@ -96,10 +96,10 @@ impl<K: Key, V> SecondaryMap<K, V> {
     /// older than the key at its index, nothing changes: the value is dropped, and `None` is
     /// returned.
     ///
-    /// If the allocation fails, nothing changes and the error holds the value; Rust aborts. An insert
-    /// at an index up to `capacity()` can't fail, and the capacity stays. That no memory is requested
-    /// then is tested. Takes constant time if the slot exists. Else all slots up to it are made, and if
-    /// the vector grows, all slots move.
+    /// If the allocation fails, nothing changes and the error holds the value; slotmap aborts. An
+    /// insert at an index up to `capacity()` can't fail, and the capacity stays. That no memory is
+    /// requested then is tested. Takes constant time if the slot exists. Else all slots up to it are
+    /// made, and if the vector grows, all slots move.
     ///
     /// ```
     /// # use slotmap_proved::{DefaultKey, Global, Key};
@@ -162,7 +162,7 @@ impl<K: Key, V> SecondaryMap<K, V> {
     /// - `NoEntry`: `entry` would return `None`.
     /// - `Memory`: the allocation failed. At an index up to `capacity()` it can't fail so.
     ///
-    /// Only `Placed` changes what the map holds. It costs what `insert` does. Rust lacks this call.
+    /// Only `Placed` changes what the map holds. It costs what `insert` does. slotmap lacks this call.
     ///
     /// ```
     /// # use slotmap_proved::{DefaultKey, Global, Key};

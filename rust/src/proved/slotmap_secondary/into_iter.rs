@@ -16,8 +16,8 @@ use crate::rt::std::{fmt, vec};
 /// over a map uses it.
 ///
 /// A contract sees it as the list of the pairs that are left. After its end it yields nothing more.
-/// Yielding all pairs reads each slot at most once and allocates nothing. Values that it hasn't
-/// yielded are dropped with it. In Rust a pair at index 0 is missed.
+/// Yielding all pairs reads each slot at most once and allocates nothing. Values that it hasn't yielded
+/// are dropped with it. In slotmap a pair at index 0 is missed.
 pub struct IntoIter<K, V> {
     // The slots that are still to be read.
     slots: vec::IntoIter<Slot<V>>,

@@ -20,11 +20,11 @@ impl<K: Key, V> SecondaryMap<K, V> {
     /// every other slot has no value and version 0. The map that `from_slots` reads from the list
     /// holds the same keys with these clones.
     ///
-    /// It fails with `OutOfMemory` if memory runs out for the list, or if the clone of a value
-    /// fails, for whatever reason. Memory for the whole list is allocated first. Takes time linear
-    /// in the number of slots, and clones each value once. A map that holds a key of index 0, or
-    /// has 4294967294 slots or more, writes a list that `from_slots` rejects. In Rust `Serialize`
-    /// writes the same records.
+    /// It fails with `OutOfMemory` if memory runs out for the list, or if the clone of a value fails,
+    /// for whatever reason. Memory for the whole list is allocated first. Takes time linear in the
+    /// number of slots, and clones each value once. A map that holds a key of index 0, or has
+    /// 4294967294 slots or more, writes a list that `from_slots` rejects. In slotmap `Serialize` writes
+    /// the same records.
     ///
     /// ```
     /// # use slotmap_proved::{DefaultKey, Global, Key, list};
@@ -86,7 +86,7 @@ impl<K: Key, V> SecondaryMap<K, V> {
     ///   or no value and an odd one.
     /// - `Memory`: the allocation failed.
     ///
-    /// Takes time linear in the length of the list, in two passes. In Rust `Deserialize` reads such
+    /// Takes time linear in the length of the list, in two passes. In slotmap `Deserialize` reads such
     /// a list.
     ///
     /// ```

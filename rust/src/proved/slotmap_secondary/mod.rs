@@ -92,7 +92,7 @@ pub struct SecondaryMap<K, V> {
     keys: PhantomData<K>,
 }
 
-/// Prints the pairs in the order of `iter`, each key before its value. In Rust the derived `Debug`
+/// Prints the pairs in the order of `iter`, each key before its value. In slotmap the derived `Debug`
 /// prints the fields of the map.
 impl<K: Key, V: fmt::Debug> fmt::Debug for SecondaryMap<K, V> {
     #[inline]
@@ -107,7 +107,7 @@ const MOST_INDEX: usize = 4294967294;
 impl<K: Key, V> SecondaryMap<K, V> {
     /// Makes an empty map.
     ///
-    /// Allocates the slot of index 0, and fails with `Memory` if the allocation fails. Rust's `new`
+    /// Allocates the slot of index 0, and fails with `Memory` if the allocation fails. slotmap's `new`
     /// aborts then. Takes constant time beside the allocation.
     ///
     /// ```
@@ -260,7 +260,7 @@ impl<K: Key, V> SecondaryMap<K, V> {
 
     /// Returns the largest index for which there is memory, in constant time.
     ///
-    /// An insert or an entry at an index up to this one never fails. Rust returns how many slots
+    /// An insert or an entry at an index up to this one never fails. slotmap returns how many slots
     /// fit, without the one of index 0: the same number.
     ///
     /// ```

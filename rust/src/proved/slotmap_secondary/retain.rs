@@ -17,11 +17,11 @@ impl<K: Key, V> SecondaryMap<K, V> {
 
     /// Calls `f` once for each key and its value, and removes the keys for which it returns false.
     ///
-    /// The caller has to prove that `f` may be called for each pair of the map, and for no other.
+    /// In Rattle the caller proves that `f` may be called for each pair of the map, and for no other.
     /// For example, if all values are below 10, `f` may add 1 to each.
     ///
     /// What `f` writes to a value that stays is kept. So a closure that writes and returns true
-    /// replaces Rust's `iter_mut` and `values_mut`. The keys are visited by ascending index. Takes
+    /// replaces slotmap's `iter_mut` and `values_mut`. The keys are visited by ascending index. Takes
     /// time linear in the number of slots, and allocates nothing.
     ///
     /// ```

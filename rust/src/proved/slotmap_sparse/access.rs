@@ -88,8 +88,8 @@ impl<K: Key, V, S: BuildHasher> SparseSecondaryMap<K, V, S> {
 
     /// Returns a reference to the value of a key that is in the map.
     ///
-    /// The caller has to prove that the key is in the map. So the call is safe, where Rust's is
-    /// `unsafe`. It looks the key up, as Rust's does. Takes constant time.
+    /// It looks the key up, and panics if it isn't in the map. So the call is safe, where slotmap's is
+    /// `unsafe`. Takes constant time.
     ///
     /// ```
     /// # use slotmap_proved::{DefaultKey, Global, Key};
@@ -168,8 +168,8 @@ impl<K: Key, V, S: BuildHasher> SparseSecondaryMap<K, V, S> {
 
     /// Returns a mutable reference to the value of a key that is in the map.
     ///
-    /// The caller has to prove that the key is in the map. So the call is safe, where Rust's is
-    /// `unsafe`. It looks the key up, as Rust's does. Takes constant time.
+    /// It looks the key up, and panics if it isn't in the map. So the call is safe, where slotmap's is
+    /// `unsafe`. Takes constant time.
     ///
     /// ```
     /// # use slotmap_proved::{DefaultKey, Global, Key};
@@ -210,7 +210,7 @@ impl<K: Key, V, S: BuildHasher> SparseSecondaryMap<K, V, S> {
     /// nothing changes, and the error holds `values`.
     ///
     /// It allocates nothing. It looks up each key, and compares each with each; so its time doesn't
-    /// depend on the size of the map. Rust's `get_disjoint_mut` returns mutable references instead.
+    /// depend on the size of the map. slotmap's `get_disjoint_mut` returns mutable references instead.
     ///
     /// ```
     /// # use slotmap_proved::{DefaultKey, Global, Key};
@@ -280,8 +280,7 @@ impl<K: Key, V, S: BuildHasher> Index<K> for SparseSecondaryMap<K, V, S> {
 
     /// Returns a reference to the value of a key that is in the map.
     ///
-    /// The caller has to prove that the key is in the map; Rust panics if it isn't. Takes constant
-    /// time.
+    /// It looks the key up, and panics if it isn't in the map. Takes constant time.
     ///
     /// ```
     /// # use slotmap_proved::{DefaultKey, Global, Key};
@@ -308,8 +307,7 @@ impl<K: Key, V, S: BuildHasher> Index<K> for SparseSecondaryMap<K, V, S> {
 impl<K: Key, V, S: BuildHasher> IndexMut<K> for SparseSecondaryMap<K, V, S> {
     /// Returns a mutable reference to the value of a key that is in the map.
     ///
-    /// The caller has to prove that the key is in the map; Rust panics if it isn't. Takes constant
-    /// time.
+    /// It looks the key up, and panics if it isn't in the map. Takes constant time.
     ///
     /// ```
     /// # use slotmap_proved::{DefaultKey, Global, Key};

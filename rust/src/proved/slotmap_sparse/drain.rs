@@ -72,9 +72,10 @@ impl<'a, K: Key, V, S: BuildHasher> fmt::Debug for Drain<'a, K, V, S> {
 impl<K: Key, V, S: BuildHasher> SparseSecondaryMap<K, V, S> {
     /// Returns an iterator that removes the keys and yields them with their values, in any order.
     ///
-    /// The iterator may be dropped at any step. Then the keys that are left are removed too, so the
-    /// map is empty. The map keeps its memory. Each step takes constant time. Dropping it
-    /// takes time linear in the capacity.
+    /// The iterator may be dropped at any step. Then the keys that are left are removed too, so the map
+    /// is empty. The map keeps its memory. Each step looks for the first pair of std's hash map, in
+    /// time linear in the capacity. The drain of the map under slotmap's names walks over that map
+    /// once.
     ///
     /// ```
     /// # use slotmap_proved::{DefaultKey, Global, Key};

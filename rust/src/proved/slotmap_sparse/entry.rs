@@ -88,7 +88,7 @@ impl<K: Key, V, S: BuildHasher> SparseSecondaryMap<K, V, S> {
     /// Returns the entry of a key, with `Older` as an error if `entry` would return `None`.
     ///
     /// Then the map is unchanged. It never fails with `Memory`. Apart from that it does the same as
-    /// `entry`, at the same cost. Rust lacks this call.
+    /// `entry`, at the same cost. slotmap lacks this call.
     ///
     /// ```
     /// # use slotmap_proved::{DefaultKey, Global, Key};
@@ -169,7 +169,7 @@ impl<'a, K: Key, V, S: BuildHasher> Entry<'a, K, V, S> {
 
     /// Calls `f` on the value if the key has one, and returns the entry.
     ///
-    /// If the key has no value, `f` isn't called. The caller has to prove that `f` may be called on
+    /// If the key has no value, `f` isn't called. In Rattle the caller proves that `f` may be called on
     /// the value that the key has, and on no other. Takes constant time beside `f`.
     ///
     /// ```
@@ -220,9 +220,9 @@ impl<'a, K: Key, V, S: BuildHasher> Entry<'a, K, V, S> {
 
     /// Returns a mutable reference to the key's value, which is `value` if it had none.
     ///
-    /// The reference is valid for as long as the map is borrowed. It allocates only if the key has
-    /// no value. If the allocation fails, the error holds `value`, and the map is as the entry left
-    /// it. Takes constant time, except if the table grows or is built anew. In Rust it returns the
+    /// The reference is valid for as long as the map is borrowed. It allocates only if the key has no
+    /// value. If the allocation fails, the error holds `value`, and the map is as the entry left it.
+    /// Takes constant time, except if the table grows or is built anew. In slotmap it returns the
     /// reference, not a `Result`.
     ///
     /// ```
@@ -383,9 +383,9 @@ impl<'a, K: Key, V, S: BuildHasher> VacantEntry<'a, K, V, S> {
 
     /// Inserts the value and returns a mutable reference to it.
     ///
-    /// If the allocation fails, the error holds the value, and the map is as the entry left it.
-    /// Takes constant time, except if the table grows or is built anew. In Rust it returns the
-    /// reference, not a `Result`.
+    /// If the allocation fails, the error holds the value, and the map is as the entry left it. Takes
+    /// constant time, except if the table grows or is built anew. In slotmap it returns the reference,
+    /// not a `Result`.
     ///
     /// ```
     /// # use slotmap_proved::{DefaultKey, Global, Key};

@@ -15,8 +15,8 @@ impl<K: Key, V, S: BuildHasher> SparseSecondaryMap<K, V, S> {
     /// A pair whose key is null, or older than the key at its index, is dropped. If an allocation
     /// fails, the error holds the pair that it was for. The pairs before it have been inserted then,
     /// and the rest of the iterator is dropped. It never fails while the map holds fewer keys than
-    /// `capacity()` was before. The iterator has to end. Each pair costs what `insert` does. In
-    /// Rust this is the trait `Extend`.
+    /// `capacity()` was before. The iterator has to end. Each pair costs what `insert` does. In slotmap
+    /// this is the trait `Extend`.
     ///
     /// ```
     /// # use slotmap_proved::{DefaultKey, Global, Key};
@@ -65,8 +65,8 @@ impl<K: Key, V, S: BuildHasher> SparseSecondaryMap<K, V, S> {
 
     /// Inserts each pair of an iterator over references, with a copy of the value.
     ///
-    /// Apart from that it does the same as `extend`, at the same cost. In Rust this is a second
-    /// impl of `Extend`.
+    /// Apart from that it does the same as `extend`, at the same cost. In slotmap this is a second impl
+    /// of `Extend`.
     ///
     /// ```
     /// # use slotmap_proved::{DefaultKey, Global, Key};
@@ -123,9 +123,8 @@ impl<K: Key, V, S: BuildHasher> SparseSecondaryMap<K, V, S> {
     /// `extend`.
     ///
     /// If an allocation fails there is no map: the pairs before the fault and the rest of the iterator
-    /// are dropped. The error is `Some`, with the pair that memory ran out for. The iterator has to end.
-    /// Costs as `extend`. In Rust this is `FromIterator`, for a hasher that
-    /// has a default.
+    /// are dropped. The error is `Some`, with the pair that memory ran out for. The iterator has to
+    /// end. Costs as `extend`. In slotmap this is `FromIterator`, for a hasher that has a default.
     ///
     /// If strangers choose the keys, use a `RandomState`.
     ///
@@ -182,10 +181,9 @@ impl<K: Key, V> SparseSecondaryMap<K, V> {
     /// `extend`.
     ///
     /// If an allocation fails there is no map: the pairs before the fault and the rest of the iterator
-    /// are dropped. The error is `Some`, with the pair that memory ran out for. The iterator has to end.
-    /// Costs as `extend`. In Rust this is `FromIterator`. If strangers choose
-    /// the keys, call [`SparseSecondaryMap::from_iter_with_hasher`]: the default hasher's seed is
-    /// fixed and public.
+    /// are dropped. The error is `Some`, with the pair that memory ran out for. The iterator has to
+    /// end. Costs as `extend`. In slotmap this is `FromIterator`. If strangers choose the keys, call
+    /// [`SparseSecondaryMap::from_iter_with_hasher`]: the default hasher's seed is fixed and public.
     ///
     /// ```
     /// # use slotmap_proved::{DefaultKey, Global, Key};

@@ -50,9 +50,10 @@ impl<K: Key, V, S: BuildHasher> SparseSecondaryMap<K, V, S> {
     /// older than the key at its index, nothing changes: the value is dropped, and `None` is
     /// returned.
     ///
-    /// If the allocation fails, the map holds what it held and the error holds the value; Rust
-    /// aborts. A call allocates only if nothing is at the key's index, and never fails while the
-    /// map holds fewer keys than `capacity()`. Takes constant time, except if the table grows or is built anew.
+    /// If the allocation fails, the map holds what it held and the error holds the value; slotmap
+    /// aborts. A call allocates only if nothing is at the key's index, and never fails while the map
+    /// holds fewer keys than `capacity()`. Takes constant time, except if the table grows or is built
+    /// anew.
     ///
     /// ```
     /// # use slotmap_proved::{DefaultKey, Global, Key};
@@ -120,7 +121,7 @@ impl<K: Key, V, S: BuildHasher> SparseSecondaryMap<K, V, S> {
     /// - `Memory`: the allocation failed. A call allocates only if nothing is at the key's index, so
     ///   it can't fail where an older key is. There `entry` removes the older key before it inserts.
     ///
-    /// Only `Placed` changes what the map holds. It costs what `insert` does. Rust lacks this call.
+    /// Only `Placed` changes what the map holds. It costs what `insert` does. slotmap lacks this call.
     ///
     /// ```
     /// # use slotmap_proved::{DefaultKey, Global, Key};

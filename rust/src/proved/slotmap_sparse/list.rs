@@ -19,11 +19,11 @@ impl<K: Key, V, S: BuildHasher> SparseSecondaryMap<K, V, S> {
     /// key. The slot of a key has the value and the odd version; every other slot has no value and
     /// version 0. The map that `from_slots` reads from the list holds the same keys with these clones.
     ///
-    /// It fails with `OutOfMemory` if memory runs out for the list, or if the clone of a value
-    /// fails, for whatever reason. Memory for the whole list is allocated first. Takes time linear
-    /// in the largest index, and clones each value once. A map that holds a key of index 0, or of
-    /// an index from 4294967293 on, writes a list that `from_slots` rejects. In Rust `Serialize`
-    /// writes the same records.
+    /// It fails with `OutOfMemory` if memory runs out for the list, or if the clone of a value fails,
+    /// for whatever reason. Memory for the whole list is allocated first. Takes time linear in the
+    /// largest index, and clones each value once. A map that holds a key of index 0, or of an index
+    /// from 4294967293 on, writes a list that `from_slots` rejects. In slotmap `Serialize` writes the
+    /// same records.
     ///
     /// ```
     /// # use slotmap_proved::{DefaultKey, Global, Key, list};
@@ -117,9 +117,8 @@ impl<K: Key, V, S: BuildHasher> SparseSecondaryMap<K, V, S> {
     ///   or no value and an odd one.
     /// - `Memory`: the allocation failed.
     ///
-    /// Takes time linear in the length of the list, in two passes. In Rust `Deserialize` reads such
-    /// a list, for a hasher that has a default. For a list that a stranger wrote, use a
-    /// `RandomState`.
+    /// Takes time linear in the length of the list, in two passes. In slotmap `Deserialize` reads such
+    /// a list, for a hasher that has a default. For a list that a stranger wrote, use a `RandomState`.
     ///
     /// ```
     /// # use slotmap_proved::{DefaultKey, Global, Key, list};

@@ -50,7 +50,7 @@ use crate::rt::std::fmt;
 use crate::rt::std::hash::{BuildHasher, BuildHasherDefault, FoldHasher};
 use crate::rt::std::marker::PhantomData;
 
-/// The hasher of a map that names no other. In Rust the default is `RandomState`.
+/// The hasher of a map that names no other. In slotmap the default is `RandomState`.
 ///
 /// Its seed is fixed and public. Whoever chooses the keys can choose many whose hashes collide, and
 /// then each call takes time linear in their number. If strangers choose the keys, or write a list
@@ -66,7 +66,7 @@ pub type DefaultHasher = BuildHasherDefault<FoldHasher>;
 ///   than 2147483648 apart. So a value that was put under a removed key is never found under the next
 ///   key of that slot. That holds in any run of fewer than 2147483648 commands on two unused maps.
 /// - Versions wrap around: of two versions more than 2147483648 apart, the larger one is the older.
-///   If they are exactly that far apart, the key in the map stays. In Rust `entry` takes it out.
+///   If they are exactly that far apart, the key in the map stays. In slotmap `entry` takes it out.
 /// - Index 0, which no primary map hands out, is an index like any other here.
 ///
 /// It needs memory only for its own keys, where `SecondaryMap` needs it for each index up to the
@@ -105,7 +105,7 @@ pub struct SparseSecondaryMap<K, V, S: BuildHasher = DefaultHasher> {
     keys: PhantomData<K>,
 }
 
-/// Prints the pairs in the order of `iter`, each key before its value. In Rust the derived `Debug`
+/// Prints the pairs in the order of `iter`, each key before its value. In slotmap the derived `Debug`
 /// prints the fields of the map.
 impl<K: Key, V: fmt::Debug, S: BuildHasher> fmt::Debug for SparseSecondaryMap<K, V, S> {
     #[inline]

@@ -11,13 +11,13 @@ use crate::rt::std::hash::BuildHasher;
 impl<K: Key, V, S: BuildHasher> SparseSecondaryMap<K, V, S> {
     /// Calls `f` once for each key and its value, and removes the keys for which it returns false.
     ///
-    /// The caller has to prove that `f` may be called for each pair of the map, and for no other.
+    /// In Rattle the caller proves that `f` may be called for each pair of the map, and for no other.
     /// For example, if all values are below 10, `f` may add 1 to each.
     ///
     /// What `f` writes to a value that stays is kept. So a closure that writes and returns true
-    /// replaces Rust's `iter_mut` and `values_mut`. The keys are visited in any order. Takes time
-    /// linear in the capacity, and allocates nothing. The map then has memory for at least as
-    /// many more keys as before.
+    /// replaces slotmap's `iter_mut` and `values_mut`. The keys are visited in any order. Takes time
+    /// linear in the capacity, and allocates nothing. The map then has memory for at least as many more
+    /// keys as before.
     ///
     /// ```
     /// # use slotmap_proved::{DefaultKey, Global, Key};

@@ -11,7 +11,7 @@ use crate::proved::slotmap_core::keys::{Key, KeyData};
 
 /// A second key type, with the same behavior as `DefaultKey`.
 ///
-/// A key of this type can't be passed to a map of `DefaultKey`, nor the other way round. Rust lacks
+/// A key of this type can't be passed to a map of `DefaultKey`, nor the other way round. slotmap lacks
 /// this type.
 ///
 /// ```

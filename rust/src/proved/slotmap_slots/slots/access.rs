@@ -54,7 +54,7 @@ impl<P, L: Layout<P>> Slots<P, L> {
         Some(self.layout.payload(index))
     }
 
-    /// Returns the payload of a live key, without checking its version.
+    /// Returns the payload of a live key.
     ///
     /// # Proved
     ///
@@ -70,8 +70,7 @@ impl<P, L: Layout<P>> Slots<P, L> {
         self.layout.payload(key.idx() as usize)
     }
 
-    /// Returns a mutable reference to the payload of a live key, without checking its
-    /// version.
+    /// Returns a mutable reference to the payload of a live key.
     ///
     /// # Proved
     ///

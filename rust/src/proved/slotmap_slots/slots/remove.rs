@@ -31,7 +31,7 @@ impl<P, L: Layout<P>> Slots<P, L> {
         }
     }
 
-    /// Removes a live key and returns its payload, without checking its version.
+    /// Removes a live key and returns its payload.
     ///
     /// # Proved
     ///
