@@ -9,6 +9,8 @@ mod counted_structures;
 mod refused;
 #[path = "memory/refused_maps.rs"]
 mod refused_maps;
+#[path = "memory/refused_runs.rs"]
+mod refused_runs;
 #[path = "memory/refused_structures.rs"]
 mod refused_structures;
 #[path = "memory/watching.rs"]

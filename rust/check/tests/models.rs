@@ -21,3 +21,5 @@ mod world;
 mod primary;
 #[path = "models/side.rs"]
 mod side;
+#[path = "models/proved.rs"]
+mod proved;

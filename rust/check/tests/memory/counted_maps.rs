@@ -3,13 +3,13 @@
 
 use super::common::keys::key_of;
 use super::watching::free;
-use slotmap_proved::fallible::Vec as ProvedVec;
+use slotmap_proved::fallible::{OrPut, Vec as ProvedVec};
 use slotmap_proved::{fallible, DefaultKey, DenseSlotMap, Global, HopSlotMap, Key, SecondaryMap, SlotMap, SparseSecondaryMap};
 
 const SIZES: [usize; 2] = [1000, 100_000];
 
 macro_rules! primary {
-    ($module:ident, $map:ident, more: [$($more:ident),*]) => {
+    ($module:ident, $map:ident, more: [$($more:ident),*], of_proved: [$($of_proved:ident),*]) => {
         mod $module {
             use super::*;
 
@@ -74,7 +74,7 @@ macro_rules! primary {
                 fill(map, keys, size);
                 free!(map.retain(|_, value| *value % 3 != 0));
                 fill(map, keys, size);
-                free!(drop(map.drain().take(size / 2).count()));
+                free!(map.drain().take(size / 2).count());
                 fill(map, keys, size);
                 free!(map.clear());
                 fill(map, keys, size);
@@ -108,16 +108,19 @@ macro_rules! primary {
             fn proved_walks() {
                 for size in SIZES {
                     let mut fallible: fallible::$map<DefaultKey, u64> = fallible::$map::with_capacity(Global, size).expect("memory");
-                    (0..size as u64).for_each(|value| drop(free!(fallible.insert(value)).ok().expect("room")));
+                    (0..size as u64).for_each(|value| assert!(free!(fallible.insert(value)).is_ok()));
                     let key = fallible.keys().next().expect("a key");
                     assert_eq!((free!(fallible.iter().len()), free!(fallible.keys().len()), free!(fallible.values().len())), (size, size, size));
                     assert_eq!((free!(fallible[key]), free!(*fallible.get_unchecked(key))), (0, 0));
                     free!(fallible[key] = 1);
                     free!(*fallible.get_unchecked_mut(key) = 2);
                     assert!(free!(fallible.get(key).is_some() && fallible.get_mut(key).is_some() && fallible.contains_key(key)));
+                    assert_eq!(free!(fallible.iter_mut().count()), size);
+                    let more: &[fn(&mut fallible::$map<DefaultKey, u64>, DefaultKey)] = &[$($of_proved),*];
+                    more.iter().for_each(|more| more(&mut fallible, key));
                     assert!(free!(fallible.remove(key)).is_some() && free!(fallible.len()) < free!(fallible.capacity()));
                     free!(fallible.retain(|_, value| *value % 2 == 0));
-                    free!(drop(fallible.drain().take(size / 4).count()));
+                    free!(fallible.drain().take(size / 4).count());
                     free!(fallible.clear());
                     assert!(free!(fallible.is_empty()) && free!(fallible.into_iter().next().is_none()));
                 }
@@ -126,9 +129,9 @@ macro_rules! primary {
     };
 }
 
-primary!(basic, SlotMap, more: [detach_basic, by_index]);
-primary!(dense, DenseSlotMap, more: [detach_dense, slices]);
-primary!(hop, HopSlotMap, more: []);
+primary!(basic, SlotMap, more: [detach_basic, by_index], of_proved: [proved_detach_basic]);
+primary!(dense, DenseSlotMap, more: [detach_dense, slices], of_proved: [proved_detach_dense, proved_slices]);
+primary!(hop, HopSlotMap, more: [], of_proved: []);
 
 macro_rules! detach {
     ($name:ident, $map:ident) => {
@@ -148,6 +151,27 @@ macro_rules! detach {
 
 detach!(detach_basic, SlotMap);
 detach!(detach_dense, DenseSlotMap);
+
+macro_rules! proved_detach {
+    ($name:ident, $map:ident) => {
+        fn $name(fallible: &mut fallible::$map<DefaultKey, u64>, key: DefaultKey) {
+            let value = free!(fallible.detach(key)).expect("it is live");
+            assert!(free!(fallible.reattach(key, value)).is_ok());
+        }
+    };
+}
+
+proved_detach!(proved_detach_basic, SlotMap);
+proved_detach!(proved_detach_dense, DenseSlotMap);
+
+fn proved_slices(fallible: &mut fallible::DenseSlotMap<DefaultKey, u64>, key: DefaultKey) {
+    assert_eq!(free!(fallible.keys_as_slice().len()), free!(fallible.values_as_slice().len()));
+    assert_eq!(free!(fallible.as_slices().0.len()), free!(fallible.as_mut_slices().1.len()));
+    assert_eq!(free!(fallible.values_as_mut_slice().len()), free!(fallible.values_mut().count()));
+    let other = fallible.keys().last().expect("a key");
+    let (one, two) = free!(fallible.get_disjoint_unchecked_mut([key, other]));
+    assert!(one != two);
+}
 
 fn by_index(map: &mut SlotMap<DefaultKey, u64>, keys: &[DefaultKey]) {
     let fallible = map.as_ref();
@@ -183,14 +207,17 @@ macro_rules! side {
                 for index in 1..=size as u32 {
                     let key = key_of(index, 1);
                     match index % 8 {
-                        0 => drop(free!(map.insert(key, 1))),
+                        0 => assert!(free!(map.insert(key, 1)).map_or(true, |before| before == 1)),
                         1 => assert!(free!(map.try_insert(key, 1)).is_ok()),
                         2 => assert!(free!(map.as_mut().insert(key, 1)).is_ok()),
-                        3 => drop(free!(map.as_mut().or_put(key, 1))),
+                        3 => assert!(!matches!(free!(map.as_mut().or_put(key, 1)), OrPut::Memory(_))),
                         4 => free!(*map.entry(key).expect("an entry").or_insert(1) = 1),
                         5 => free!(*map.try_entry(key).ok().expect("an entry").or_insert_with(|| 1) = 1),
                         6 => free!(map.extend([(key, 1)])),
-                        _ => free!(*map.entry(key).expect("an entry").and_modify(|_| ()).or_default() = 1),
+                        _ => {
+                            let entry = free!(map.entry(key)).expect("an entry");
+                            free!(*entry.and_modify(|_| ()).or_default() = 1);
+                        }
                     }
                 }
                 assert_eq!(map.len(), size);
@@ -215,12 +242,30 @@ macro_rules! side {
                 assert!(!free!(map.is_empty()) && free!(map.len()) <= free!(map.capacity()));
             }
 
+            /// The entries of the proved map. What is put there is 1, as before.
+            fn enter(fallible: &mut fallible::$map<DefaultKey, u64>, key: DefaultKey) {
+                use slotmap_proved::fallible::$module::Entry;
+                let entry = free!(fallible.entry(key)).ok().flatten().expect("an entry");
+                let _ = free!(entry.and_modify(|_| ()).or_insert(1));
+                let entry = free!(fallible.try_entry(key)).ok().expect("an entry");
+                let _ = free!(entry.or_insert_with(|| 1));
+                if let Ok(Entry::Occupied(mut entry)) = free!(fallible.try_entry(key)) {
+                    assert_eq!((free!(entry.key()), free!(*entry.get()), free!(*entry.get_mut()), free!(entry.insert(1))), (key, 1, 1, 1));
+                    free!(*entry.into_mut() = 1);
+                }
+                assert!(free!(fallible.remove(key)).is_some() && matches!(free!(fallible.or_put(key, 1)), OrPut::Placed));
+            }
+
             fn walk(map: &mut Map) {
                 let count = map.len();
                 assert_eq!((free!(map.iter().count()), free!(map.keys().count()), free!(map.values().count())), (count, count, count));
                 assert_eq!((free!(map.iter_mut().count()), free!(map.values_mut().count())), (count, count));
                 assert_eq!(free!(map.iter().clone().len()), count);
+                let mut fallible = fallible::$map::from_iter(Global, [(key_of(1, 1), 1)]).ok().expect("memory");
+                enter(&mut fallible, key_of(1, 1));
+                assert!(free!(*map == *map));
                 let fallible = map.as_mut();
+                assert!(free!(*fallible == *fallible) && free!(fallible.iter_mut().count()) == count);
                 assert_eq!((free!(fallible.iter().len()), free!(fallible.keys().len()), free!(fallible.values().len())), (count, count, count));
             }
 
@@ -228,16 +273,16 @@ macro_rules! side {
                 for index in (1..=size as u32).step_by(2) {
                     let key = key_of(index, 1);
                     match free!(map.entry(key)) {
-                        Some(Entry::Occupied(entry)) if index % 4 == 1 => drop(free!(entry.remove_entry())),
-                        Some(Entry::Occupied(entry)) if index % 8 == 3 => drop(free!(entry.remove())),
-                        _ => drop(free!(map.remove(key))),
+                        Some(Entry::Occupied(entry)) if index % 4 == 1 => assert_eq!(free!(entry.remove_entry()), (key, 1)),
+                        Some(Entry::Occupied(entry)) if index % 8 == 3 => assert_eq!(free!(entry.remove()), 1),
+                        _ => assert_eq!(free!(map.remove(key)), Some(1)),
                     }
                     assert!(free!(map.remove(key)).is_none());
                 }
                 fill(map, size);
                 free!(map.retain(|key, _| key.data().as_ffi() % 3 != 0));
                 fill(map, size);
-                free!(drop(map.drain().take(size / 2).count()));
+                free!(map.drain().take(size / 2).count());
                 fill(map, size);
                 free!(map.clear());
                 fill(map, size);
@@ -266,6 +311,20 @@ side!(secondary, SecondaryMap, made: |size| SecondaryMap::with_capacity(size));
 // Where pairs go and others come, a hash map sets itself in order now and then: in place, if half of its room is free.
 side!(sparse_secondary, SparseSecondaryMap, made: |size| SparseSecondaryMap::with_capacity(2 * size));
 
+/// Calls that look at numbers and lists alone.
+#[test]
+fn of_no_map() {
+    let list = SlotMap::<DefaultKey, u64>::from_slots(vec![slot(None, 0), slot(Some(5), 1)]).expect("a list").to_slots().expect("memory");
+    assert!(free!(slotmap_proved::serial::check_slots(&list, 10)).is_ok() && free!(slotmap_proved::is_older_version(1, 3)));
+    let map: SparseSecondaryMap<DefaultKey, u64> = free!(SparseSecondaryMap::with_hasher(Default::default()));
+    let fallible = free!(fallible::SparseSecondaryMap::<DefaultKey, u64>::with_hasher(Global, Default::default()));
+    assert!(map.is_empty() && fallible.is_ok());
+}
+
+fn slot(value: Option<u64>, version: u32) -> slotmap_proved::serial::SlotRecord<u64> {
+    slotmap_proved::serial::SlotRecord { value, version }
+}
+
 /// Where room was made, as many new keys are put without a request.
 #[test]
 fn after_reserving() {
@@ -275,12 +334,12 @@ fn after_reserving() {
             map.reserve(size);
             assert!(free!(map.try_reserve(size)).is_ok());
             let start = turn * size as u32;
-            (1..=size as u32).for_each(|index| drop(free!(map.insert(key_of(start + index, 1), 1))));
+            (1..=size as u32).for_each(|index| assert_eq!(free!(map.insert(key_of(start + index, 1), 1)), None));
         }
         let mut map: SecondaryMap<DefaultKey, u64> = SecondaryMap::new();
         map.set_capacity(size);
         assert!(free!(map.try_set_capacity(size)).is_ok());
-        (1..=size as u32).for_each(|index| drop(free!(map.insert(key_of(index, 1), 1))));
+        (1..=size as u32).for_each(|index| assert_eq!(free!(map.insert(key_of(index, 1), 1)), None));
         assert!(free!(map.as_ref().key_at(1)).is_some());
     }
 }

@@ -57,7 +57,7 @@ fn empty_list(list: &mut StableList<Cursor, u64>, size: usize) {
     assert!(free!(list.extend(0..size as u64 / 2)).is_ok());
     free!(list.retain(|_, value| *value % 3 != 0));
     fill_list(list, size);
-    free!(drop(list.drain().take(size / 2).count()));
+    free!(list.drain().take(size / 2).count());
     fill_list(list, size);
     free!(list.clear());
     fill_list(list, size);
@@ -223,6 +223,8 @@ fn look_at_scene(scene: &mut Scene<DefaultKey, Offset>, nodes: &[DefaultKey]) {
     assert_eq!((free!(scene.keys_below(nodes[0]).count()), free!(scene.walk(nodes[0]).count())), (count - 1, 2 * count));
     assert!(free!(scene.next_below(nodes[0], nodes[0])).is_some() && free!(scene.roots().count()) == 1 && !free!(scene.is_empty()));
     assert_eq!((free!(scene.iter().count()), free!(scene.keys().count()), free!(scene.values().count())), (count, count, count));
+    let scene = &*scene;
+    assert_eq!(free!(scene.into_iter().count()), count);
 }
 
 #[test]
@@ -236,7 +238,7 @@ fn scene() {
             let _ = (free!(scene.move_before(*node, nodes[1])), free!(scene.move_after(*node, nodes[2])));
             assert!(free!(scene.make_root(*node)) && free!(scene.reparent(*node, nodes[0])).is_ok());
         }
-        nodes.iter().for_each(|node| drop(free!(scene.remove(*node))));
+        nodes.iter().rev().for_each(|node| assert!(free!(scene.remove(*node)).is_some() || !scene.contains_key(*node)));
         assert_eq!((free!(scene.len()), free!(scene.capacity()) >= size), (0, true));
         fill_scene(&mut scene, size);
         free!(scene.clear());
@@ -278,7 +280,7 @@ fn scheduler() {
         fill_scheduler(&mut scheduler, size);
         free!(scheduler.retain(|_, time, _| time % 2 == 0));
         fill_scheduler(&mut scheduler, size);
-        free!(drop(scheduler.drain().take(size / 2).count()));
+        free!(scheduler.drain().take(size / 2).count());
         fill_scheduler(&mut scheduler, size);
         free!(scheduler.clear());
         assert!(free!(scheduler.is_empty()));
@@ -317,6 +319,8 @@ fn look_at_world(world: &mut OfThree) {
     }
     let count = free!(world.len());
     assert_eq!((free!(world.iter().count()), free!(world.keys().count()), free!(world.values().count())), (count, count, count));
+    let world = &*world;
+    assert_eq!(free!(world.into_iter().count()), count);
     assert_eq!((free!(world.with::<First>().count()), free!(world.with_both::<First, Second>().count())), (count, count));
     assert_eq!(free!(world.with_optional::<First, Third>().count()), count);
     assert_eq!(free!(world.with_three::<First, Second, Third>().count()) + free!(world.with_without::<First, Third>().count()), count);

@@ -21,10 +21,10 @@ type Pair = (DefaultKey, u64);
 #[derive(Default)]
 struct Model(BTreeMap<u32, (u32, u64)>);
 
-/// Whether one version comes before another: they wrap around.
+/// Whether one version comes before another: they wrap around, and of two at the greatest distance each is older.
 fn is_older(version: u32, other: u32) -> bool {
     let ahead = other.wrapping_sub(version);
-    ahead != 0 && ahead < 1 << 31
+    ahead != 0 && ahead <= 1 << 31
 }
 
 impl Model {
@@ -183,6 +183,7 @@ macro_rules! side {
                     };
                     let before = self.model.get(key).expect("it is there");
                     assert_eq!((entry.key(), *entry.get(), *entry.get_mut()), (key, before, before));
+                    assert!(format!("{entry:?}").contains(&before.to_string()));
                     match self.random.below(4) {
                         0 => assert_eq!(entry.insert(value), before),
                         1 => *entry.into_mut() = value,
@@ -202,7 +203,8 @@ macro_rules! side {
                         Err(NoEntry::Older) => return assert!(self.model.refuses(key)),
                         Err(NoEntry::Memory) => panic!("memory"),
                         Ok(entry) => {
-                            assert_eq!(entry.key(), key);
+                            let kind = if self.model.get(key).is_some() { "Occupied" } else { "Vacant" };
+                            assert_eq!((entry.key(), format!("{entry:?}").starts_with(kind)), (key, true));
                             let entry = entry.and_modify(|known| *known += 1);
                             match self.random.below(4) {
                                 0 => *entry.or_insert(value) += 1,
@@ -211,7 +213,7 @@ macro_rules! side {
                                 _ => match entry {
                                     Entry::Occupied(mut entry) => *entry.get_mut() += 1,
                                     Entry::Vacant(entry) => {
-                                        assert_eq!(entry.key(), key);
+                                        assert!(entry.key() == key && format!("{entry:?}").contains(&format!("{key:?}")));
                                         *entry.insert(value) += 1;
                                     }
                                 },
@@ -367,7 +369,7 @@ macro_rules! side {
 }
 
 side!(secondary, SecondaryMap, more: [list, set_capacity, key_at]);
-side!(sparse_secondary, SparseSecondaryMap, more: [list, reserve]);
+side!(sparse_secondary, SparseSecondaryMap, more: [list, reserve, try_insert]);
 
 /// The records say what the model has at each index.
 fn assert_list(list: &[SlotRecord<u64>], model: &Model) {
@@ -413,6 +415,15 @@ impl sparse_secondary::Beside<'_> {
         self.map = made;
     }
 
+    /// The entry that can fail to put a value for want of memory.
+    fn try_insert(&mut self) {
+        let (key, value) = (self.key(), self.random.draw() % 100);
+        if let Some(slotmap_proved::sparse_secondary::Entry::Vacant(entry)) = self.map.entry(key) {
+            assert_eq!(entry.try_insert(value).ok(), Some(&mut { value }));
+            self.model.insert(key, value);
+        }
+    }
+
     fn reserve(&mut self) {
         let additional = self.random.below(2 * INDICES);
         match self.random.below(4) {
@@ -422,6 +433,16 @@ impl sparse_secondary::Beside<'_> {
             _ => return assert!(matches!(self.map.as_mut().reserve(usize::MAX), Err(ReserveError::TooGreat))),
         }
         assert!(self.map.capacity() >= self.map.len() + additional);
+    }
+}
+
+#[test]
+fn versions() {
+    let some = [0, 1, 2, 3, 5, (1 << 31) - 1, 1 << 31, 1 << 31 | 1, u32::MAX - 2, u32::MAX];
+    for version in some {
+        for other in some {
+            assert_eq!(slotmap_proved::is_older_version(version, other), is_older(version, other), "{version} {other}");
+        }
     }
 }
 
