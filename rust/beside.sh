@@ -24,6 +24,13 @@ out=$(mktemp -d)
 trap 'rm -rf "$out"' EXIT
 export CARGO_TARGET_DIR=${TARGET:-$out/target} RUSTFLAGS='--cap-lints allow' RUST_BACKTRACE=0
 left_out=
+failed=
+
+# fails WHAT: says that something differs. The others go on.
+fails() {
+    echo "differs: $1"
+    failed=yes
+}
 
 # lacks WHAT WHY: says that something is left out.
 lacks() {
@@ -123,28 +130,29 @@ ln -s "$top/crates" "$out/erased/crates"
 ln -s "$rust/src" "$out/erased/rust/src"
 cp -r "$rust/check/src" "$rust/check/tests" "$out/erased/rust/check"
 sed 's|^serde_json = .*|serde_json = "1"|; /^\[\[example\]\]/,$d' "$rust/check/Cargo.toml" >"$out/erased/rust/check/Cargo.toml"
-cargo test --config "$out/config.toml" --quiet --manifest-path "$out/erased/rust/check/Cargo.toml" --test programs
+cargo test --config "$out/config.toml" --quiet --manifest-path "$out/erased/rust/check/Cargo.toml" --test programs || fails programs
 printf '#!/bin/sh\nexec "%s/debug/programs" slotrun "$@"\n' "$CARGO_TARGET_DIR" >"$out/slotrun"
 chmod +x "$out/slotrun"
 
 echo "== rows: compare/rows over this crate"
 over ours "package = \"slotmap-proved\", path = \"$rust\""
-"$CARGO_TARGET_DIR/release/rows-ours" "$top"/crates/primary_rows/data/*.rows "$top"/crates/secondary_rows/data/*.rows >"$out/rows" || { grep -v 'differences;' "$out/rows"; exit 1; }
+"$CARGO_TARGET_DIR/release/rows-ours" "$top"/crates/primary_rows/data/*.rows "$top"/crates/secondary_rows/data/*.rows >"$out/rows" || { grep -v 'differences;' "$out/rows"; fails rows; }
 awk '/differences;/ { for (at = 2; at <= NF; at++) if ($at ~ /^(rows|calls|differences)[,;]?$/) sum[substr($at, 1, 4)] += $(at - 1) }
     END { printf "%d rows, %d calls, %d differences\n", sum["rows"], sum["call"], sum["diff"] }' "$out/rows"
 
 echo "== scripts: rustrun over this crate, beside the erased slotrun"
 python3 "$top/compare/scripts.py" 7 100 "$out/scripts" --kinds basic,dense,hop --lists
-"$top/compare/compare.sh" "$CARGO_TARGET_DIR/release/rustrun-ours" "$out/slotrun" "$out/scripts" | grep -v 'left out:'
+"$top/compare/compare.sh" "$CARGO_TARGET_DIR/release/rustrun-ours" "$out/slotrun" "$out/scripts" || fails "scripts over this crate"
 
 if [ -n "$source" ]; then
     echo "== scripts: rustrun over slotmap, beside the erased slotrun"
     over theirs 'version = "=1.1.1"'
-    "$top/compare/compare.sh" "$CARGO_TARGET_DIR/release/rustrun-theirs" "$out/slotrun" "$out/scripts" | grep -v 'left out:'
+    "$top/compare/compare.sh" "$CARGO_TARGET_DIR/release/rustrun-theirs" "$out/slotrun" "$out/scripts" || fails "scripts over slotmap"
     echo "== calls: $calls of each map"
-    CALLS=$calls beside test --test beside -- --nocapture 2>/dev/null
+    CALLS=$calls beside test --test beside || fails calls
 else
     lacks "the calls, and the scripts over slotmap" "$1/src/lib.rs, of slotmap 1.1.1 on crates.io"
 fi
+[ -z "$failed" ] || exit 1
 [ -z "$left_out" ] || exit 3
 echo "all passed"

@@ -17,11 +17,13 @@ WHOSE = ["ours", "theirs"]
 MARK = "<!-- speed -->"
 WHY = """Where this crate takes longer, the reasons are these:
 
-- An index of a vector is tested, and so is what a slot holds: two instructions each. The crate's own code is unsafe there.
+- An index of a vector is tested, and so is what a slot holds: two instructions each. slotmap's code is unsafe there.
 - A `SlotMap` has three vectors, of versions, links and values, and a new slot goes into each. Its iterators look at the versions alone.
 - An insert into a `SparseSecondaryMap` looks for the key twice.
 - A graph keeps the edges of a node in their order, and removes any edge in constant time. So a new edge changes six places, petgraph's two. A
-  graph without room reserved grows eight vectors. It takes 48 bytes an edge, petgraph's 32.""".splitlines()
+  graph without room reserved grows eight vectors. It takes 48 bytes an edge, petgraph's 32.
+- The graphs were built in a process that keeps its memory. glibc gives the memory of a larger graph back to the system when it is dropped, and
+  the next one then takes two or three times as long.""".splitlines()
 
 
 def counts(program, *words):
@@ -69,9 +71,18 @@ def structures(folder, operations):
             yield f"| {name if at == 0 else ''} | {text} | {ours:.0f} ({theirs:.0f}) |"
 
 
+def machine():
+    """What was measured on, as a sentence."""
+    with open("/proc/cpuinfo") as file:
+        model = re.search(r"^model name\s*: (.*)", file.read(), re.M)[1]
+    compiler = subprocess.run(["rustc", "--version"], capture_output=True, text=True, check=True).stdout.split()[1]
+    return f"Measured with rustc {compiler} on an {model}, which other programs used too."
+
+
 def rows(folder, operations):
     """The lines of the tables."""
     yield "Instructions at 1,000 keys, and nanoseconds at 1,000 and at 1,000,000: this crate's, and slotmap's in brackets."
+    yield machine()
     yield ""
     yield "| | | instructions | ns at 1,000 | ns at 1,000,000 |"
     yield "|---|---|---|---|---|"
