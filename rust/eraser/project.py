@@ -59,7 +59,9 @@ PATCHES = {
     ],
     # Without std there is no sparse map to be a table.
     ("slotmap_entities", "clone"): [
-        SPARSE_IMPORT, *needs("std", "impl<K: Key, C: Clone> CloneTable<K> for SparseSecondaryMap<K, C> {"),
+        SPARSE_IMPORT,
+        *needs("std", "impl<K: Key, C: Clone> CloneTable<K> for SparseSecondaryMap<K, C> {",
+               "impl<K: Key, C: Clone> crate::sealed::CloneTable<K> for SparseSecondaryMap<K, C> {}"),
     ],
     ("slotmap_entities", "tables"): [
         SPARSE_IMPORT,

@@ -2,9 +2,10 @@
 from .tokens import Bad, after_space
 
 # No user may implement these. What they promise is proved of the types that have them, and the code relies on it.
-SEALED = {"Layout", "Table", "Tables", "Kind"}
-# These have a sealed trait above them.
-BELOW_SEALED = {"CopyLayout": "Layout", "CloneTable": "Table", "CloneTables": "Tables", "CloneKind": "Kind", "Apart": "Kind"}
+# A seal above them doesn't do: a user may implement `Apart<Own, T, First> for First` with a key type of his own.
+SEALED = {"Layout", "Table", "Tables", "Kind", "CloneTable", "CloneTables", "CloneKind", "Apart"}
+# These are in no crate that is exported, and have a sealed trait above them.
+BELOW_SEALED = {"CopyLayout": "Layout"}
 # Anyone may implement these. An impl that lies spoils the answers of the calls that use it, and never memory.
 OPEN = {
     "Key": "An impl that answers otherwise from call to call, or whose `Eq`, `Ord` and `Hash` don't follow `data`, spoils the maps "

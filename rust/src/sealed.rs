@@ -17,3 +17,31 @@ pub trait Tables<K> {}
 /// The seal of what names one of these tables.
 #[cfg(feature = "structures")]
 pub trait Kind<K, T> {}
+
+/// The seal of a table of components that can be cloned.
+#[cfg(feature = "structures")]
+pub trait CloneTable<K> {}
+
+/// The seal of tables that can be cloned.
+#[cfg(feature = "structures")]
+pub trait CloneTables<K> {}
+
+/// The seal of what names a table that can be cloned.
+#[cfg(feature = "structures")]
+pub trait CloneKind<K, T> {}
+
+/// The seal of two kinds that name different tables. A seal of [`Kind`] alone doesn't do, since a key type of one's own lets one write
+/// impls for the kinds of this crate:
+///
+/// ```compile_fail
+/// use slotmap_proved::entities::{Apart, First};
+/// use slotmap_proved::SecondaryMap;
+///
+/// slotmap_proved::new_key_type! {
+///     struct Own;
+/// }
+///
+/// impl Apart<Own, (SecondaryMap<Own, u8>, ()), First> for First {}
+/// ```
+#[cfg(feature = "structures")]
+pub trait Apart<K, T, B> {}

@@ -51,6 +51,8 @@ macro_rules! tables {
             }
         }
 
+        impl<K: Key, C: Clone $(, $s: core::hash::BuildHasher + Default + Clone)?> crate::sealed::CloneTable<K> for $map<K, C $(, $s)?> {}
+
         impl<K: Key, C: Clone $(, $s: core::hash::BuildHasher + Default + Clone)?> CloneTable<K> for $map<K, C $(, $s)?> {
             fn clone_table(&self) -> Result<Self, AllocError> {
                 self.0.clone().map($map)

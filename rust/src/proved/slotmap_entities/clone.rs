@@ -22,7 +22,7 @@ use crate::rt::std::alloc::AllocError;
 /// // What a clone of a component may be.
 /// ghost is_clone: { Self.Component → Self.Component → Type 0 };
 /// ```
-pub trait CloneTable<K: Key>: Table<K> {
+pub trait CloneTable<K: Key>: crate::sealed::CloneTable<K> + Table<K> {
     // What a clone of a component may be.
 
     /// Returns a copy of the table: the same entities, each with a clone of its component. It fails only
@@ -88,7 +88,7 @@ impl<K: Key, C: Clone> CloneTable<K> for SparseSecondaryMap<K, C> {
 /// ```
 ///
 /// Words: [`Key`](crate::words#key).
-pub trait CloneTables<K: Key>: Tables<K> {
+pub trait CloneTables<K: Key>: crate::sealed::CloneTables<K> + Tables<K> {
     // What a copy of the tables may be.
 
     // That a clone of a component equals the component.
@@ -175,7 +175,7 @@ impl<K: Key, A: CloneTable<K>, B: CloneTables<K>> CloneTables<K> for (A, B) {
 /// ```
 ///
 /// Words: [`ClonesEqual`](crate::words#clonesequal), [`HasClones`](crate::words#hasclones), [`pairs`](crate::words#pairs-of-slotmap_secondary-content).
-pub trait CloneKind<K: Key, T: CloneTables<K>>: Kind<K, T> {
+pub trait CloneKind<K: Key, T: CloneTables<K>>: crate::sealed::CloneKind<K, T> + Kind<K, T> {
     // What a clone of a component may be.
 
     // Where clones equal their components, they do in this kind.
@@ -261,3 +261,17 @@ impl<K: Key, E: Clone, T: CloneTables<K>> Clone for World<K, E, T> {
         World::clone(self)
     }
 }
+
+impl<K: Key, C: Clone> crate::sealed::CloneTable<K> for SecondaryMap<K, C> {}
+
+#[cfg(feature = "std")]
+impl<K: Key, C: Clone> crate::sealed::CloneTable<K> for SparseSecondaryMap<K, C> {}
+
+impl<K: Key> crate::sealed::CloneTables<K> for () {}
+
+impl<K: Key, A: CloneTable<K>, B: CloneTables<K>> crate::sealed::CloneTables<K> for (A, B) {}
+
+impl<K: Key, A: CloneTable<K>, B: CloneTables<K>> crate::sealed::CloneKind<K, (A, B)> for First {}
+
+impl<K: Key, A: CloneTable<K>, B: CloneTables<K>, C: CloneKind<K, B>> crate::sealed::CloneKind<K, (A, B)>
+    for Then<C> {}

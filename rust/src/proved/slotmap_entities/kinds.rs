@@ -160,7 +160,7 @@ pub trait Kind<K: Key, T: Tables<K>>: crate::sealed::Kind<K, T> {
 /// ghost any_order: { (t : T) (m : Self.Table) (n : B.Table)
 ///     → Self.Kind.with_table (B.with_table t n) m ≡ B.with_table (Self.Kind.with_table t m) n };
 /// ```
-pub trait Apart<K: Key, T: Tables<K>, B: Kind<K, T>>: Kind<K, T> {
+pub trait Apart<K: Key, T: Tables<K>, B: Kind<K, T>>: crate::sealed::Apart<K, T, B> + Kind<K, T> {
     // A new table of one kind leaves that of the other as it is.
 
     // The two may be put there in any order.
@@ -222,3 +222,10 @@ impl<K: Key, A: Table<K>, B: Tables<K>, C: Apart<K, B, D>, D: Kind<K, B>> Apart<
 impl<K: Key, A: Table<K>, B: Tables<K>> crate::sealed::Kind<K, (A, B)> for First {}
 
 impl<K: Key, A: Table<K>, B: Tables<K>, C: Kind<K, B>> crate::sealed::Kind<K, (A, B)> for Then<C> {}
+
+impl<K: Key, A: Table<K>, B: Tables<K>, C: Kind<K, B>> crate::sealed::Apart<K, (A, B), Then<C>> for First {}
+
+impl<K: Key, A: Table<K>, B: Tables<K>, C: Kind<K, B>> crate::sealed::Apart<K, (A, B), First> for Then<C> {}
+
+impl<K: Key, A: Table<K>, B: Tables<K>, C: Apart<K, B, D>, D: Kind<K, B>> crate::sealed::Apart<K, (A, B), Then<D>>
+    for Then<C> {}
