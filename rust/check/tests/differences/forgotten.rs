@@ -1,5 +1,5 @@
 //! An iterator that takes elements out, and is forgotten before its end, as by `mem::forget`: nobody removes the rest then. What it has
-//! yielded is gone; all else is as before, and the map or structure goes on.
+//! yielded is gone; all else is as before, but in a `SparseSecondaryMap`, which is empty. The map or structure goes on.
 
 use super::common::keys::{key_of, Issued};
 use slotmap_proved::list::{Cursor, StableList};
@@ -59,8 +59,16 @@ primary! {
     hop HopSlotMap;
 }
 
+/// What wasn't yielded is still in the map.
+fn stays(_: &mut BTreeMap<DefaultKey, String>) {}
+
+/// The drain is that of std's hash map, which is empty from its start on.
+fn goes(rest: &mut BTreeMap<DefaultKey, String>) {
+    rest.clear();
+}
+
 macro_rules! side {
-    ($($test:ident $map:ident;)*) => {
+    ($($test:ident $map:ident, $rest:ident;)*) => {
         $(#[test]
         fn $test() {
             for count in [0, 1, 7, COUNT as usize, COUNT as usize + 1] {
@@ -71,6 +79,7 @@ macro_rules! side {
                     assert!(!map.contains_key(key));
                 }
                 assert_eq!(model.len(), (COUNT as usize).saturating_sub(count));
+                $rest(&mut model);
                 assert_eq!(map.iter().map(|(key, value)| (key, value.clone())).collect::<BTreeMap<_, _>>(), model);
                 assert_eq!((map.len(), map.iter().len(), map.iter().count()), (model.len(), model.len(), model.len()));
                 for index in 1..=2 * COUNT as u32 {
@@ -83,8 +92,8 @@ macro_rules! side {
 }
 
 side! {
-    secondary SecondaryMap;
-    sparse_secondary SparseSecondaryMap;
+    secondary SecondaryMap, stays;
+    sparse_secondary SparseSecondaryMap, goes;
 }
 
 #[test]

@@ -115,7 +115,6 @@ macro_rules! primary {
                     free!(fallible[key] = 1);
                     free!(*fallible.get_unchecked_mut(key) = 2);
                     assert!(free!(fallible.get(key).is_some() && fallible.get_mut(key).is_some() && fallible.contains_key(key)));
-                    assert_eq!(free!(fallible.iter_mut().count()), size);
                     let more: &[fn(&mut fallible::$map<DefaultKey, u64>, DefaultKey)] = &[$($of_proved),*];
                     more.iter().for_each(|more| more(&mut fallible, key));
                     assert!(free!(fallible.remove(key)).is_some() && free!(fallible.len()) < free!(fallible.capacity()));
@@ -168,7 +167,7 @@ fn proved_slices(fallible: &mut fallible::DenseSlotMap<DefaultKey, u64>, key: De
     assert_eq!(free!(fallible.keys_as_slice().len()), free!(fallible.values_as_slice().len()));
     assert_eq!(free!(fallible.as_slices().0.len()), free!(fallible.as_mut_slices().1.len()));
     assert_eq!(free!(fallible.values_as_mut_slice().len()), free!(fallible.values_mut().count()));
-    let other = fallible.keys().last().expect("a key");
+    let other = fallible.keys().find(|other| *other != key).expect("two keys");
     let (one, two) = free!(fallible.get_disjoint_unchecked_mut([key, other]));
     assert!(one != two);
 }
@@ -230,7 +229,7 @@ macro_rules! side {
                     let value = free!(map[key]);
                     assert_eq!((*free!(map.get_unchecked(key)), *free!(map.get_unchecked_mut(key))), (value, value));
                     free!(map[key] = value);
-                    assert!(free!(map.as_mut().replace_disjoint(keys, [1, 2])).is_ok());
+                    assert!(free!(map.as_mut().replace_disjoint(keys, [1, 1])).is_ok());
                     let Some(Entry::Occupied(mut entry)) = free!(map.entry(key)) else { panic!("it has a value") };
                     assert_eq!((free!(entry.key()), free!(*entry.get()), free!(entry.insert(3))), (key, 1, 1));
                     free!(*entry.get_mut() = 4);
@@ -265,7 +264,7 @@ macro_rules! side {
                 enter(&mut fallible, key_of(1, 1));
                 assert!(free!(*map == *map));
                 let fallible = map.as_mut();
-                assert!(free!(*fallible == *fallible) && free!(fallible.iter_mut().count()) == count);
+                assert!(free!(*fallible == *fallible));
                 assert_eq!((free!(fallible.iter().len()), free!(fallible.keys().len()), free!(fallible.values().len())), (count, count, count));
             }
 
