@@ -23,7 +23,7 @@ WHY = """Where this crate takes longer, the reasons are these:
 - A graph keeps the edges of a node in their order, and removes any edge in constant time. So a new edge changes six places, petgraph's two. A
   graph without room reserved grows eight vectors. It takes 48 bytes an edge, petgraph's 32.
 - The graphs were built in a process that keeps its memory. glibc gives the memory of a larger graph back to the system when it is dropped, and
-  the next one then takes two or three times as long.""".splitlines()
+  the next one then takes two to six times as long.""".splitlines()
 
 
 def counts(program, *words):
