@@ -5,7 +5,8 @@
 #
 #     aarch64-unknown-linux-gnu    under qemu-aarch64-static
 #     x86_64-pc-windows-gnu        under wine
-#     wasm32-wasi                  under node, with 32 bits
+#     wasm32-wasi                  under node, with 32 bits: joined_rows alone, since the rows of the others name numbers of 64 bits, and
+#                                  one calls next_after of the null key, which the page of the crate excepts there
 #
 # It takes the compiler RUSTC, or rustc. On Debian 12 `apt-get install rustc libstd-rust-dev-windows libstd-rust-dev-wasm32` gives
 # /usr/bin/rustc with two of these, and after `dpkg --add-architecture arm64` `apt-get install libstd-rust-dev:arm64` the third. That
@@ -54,10 +55,11 @@ build() {
     "$compiler" "$@" --extern serde_json --extern slotmap_proved --crate-name programs "$top/rust/check/src/bin/programs.rs"
 }
 
-# same TARGET RUN ..: each program prints what the proved one prints.
+# same TARGET RUN ..: each of these programs prints what the proved one prints.
+programs="primary_rows secondary_rows joined_rows"
 same() {
     local name folder
-    for name in primary_rows secondary_rows joined_rows; do
+    for name in $programs; do
         folder=$top/crates/$name
         # shellcheck disable=SC2046
         (cd "$folder/data" && "${@:2}" "$name" $(cat ../args)) >"$out/printed"
@@ -96,6 +98,7 @@ const wasi = new WASI({ version: 'preview1', args: ['programs', ...args], preope
 const module = await WebAssembly.compile(readFileSync(program));
 process.exit(wasi.start(await WebAssembly.instantiate(module, wasi.getImportObject())));
 JS
+    programs=joined_rows
     same $system node --no-warnings "$out/run.mjs" "$out/$system/programs.wasm"
 fi
 
