@@ -28,7 +28,8 @@ SIDE = ["SecondaryMap", "SparseSecondaryMap"]
 PROVED_PRIMARY = [f"fallible::{name}" for name in PRIMARY]
 PROVED_SIDE = [f"fallible::{name}" for name in SIDE]
 PROVED = PROVED_PRIMARY + PROVED_SIDE
-ENTRIES = [f"{module}::{name}" for module in ["secondary", "sparse_secondary"] for name in ["Entry", "OccupiedEntry", "VacantEntry"]]
+OF_ENTRIES = ["Entry", "OccupiedEntry", "VacantEntry"]
+ENTRIES = [f"{module}::{name}" for module in ["secondary", "sparse_secondary"] for name in OF_ENTRIES]
 PROVED_ENTRIES = [f"fallible::{name}" for name in ENTRIES]
 STRUCTURES = ["list::StableList", "lists::StableLists", "graph::Graph", "scene::Scene", "entities::World", "scheduler::Scheduler"]
 TYPES = PRIMARY + SIDE + PROVED + ENTRIES + PROVED_ENTRIES + STRUCTURES
@@ -40,6 +41,11 @@ MAPS = {"map": PRIMARY + SIDE, "copy": PRIMARY + SIDE, "other": PRIMARY + SIDE, 
         "old": PRIMARY + SIDE, "fallible": PROVED, "spare": PROVED, "Fallible": PROVED, "entry": ENTRIES + PROVED_ENTRIES}
 OF_STRUCTURES = {"list": ["list::StableList"], "lists": ["lists::StableLists"], "graph": ["graph::Graph"], "scene": ["scene::Scene"],
                  "world": ["entities::World"], "OfThree": ["entities::World"], "scheduler": ["scheduler::Scheduler"]}
+
+
+def all_of(types):
+    """The names of a file about some kinds of map."""
+    return {name: types for name in ["map", "copy", "made", "old", "other", "Map", "$map"]}
 
 
 def of(module, **names):
@@ -56,8 +62,8 @@ FILES = [
     ("rows", PROGRAMS / "joined_rows", {}),
     ("rows", PROGRAMS / "slotmap_script", {}),
     ("rows", PROGRAMS / "structures_at_size", OF_STRUCTURES),
-    ("models", "models/primary.rs", {**MAPS, **{name: PRIMARY for name in ["map", "copy", "made", "old", "Map"]}, "fallible": PROVED_PRIMARY}),
-    ("models", "models/side.rs", {**MAPS, **{name: SIDE for name in ["map", "copy", "made", "old", "Map"]}, "fallible": PROVED_SIDE}),
+    ("models", "models/primary.rs", {**all_of(PRIMARY), "fallible": PROVED_PRIMARY}),
+    ("models", "models/side.rs", {**all_of(SIDE), "fallible": PROVED_SIDE, "entry": ENTRIES}),
     ("models", "models/list.rs", of("list")),
     ("models", "models/lists.rs", of("lists")),
     ("models", "models/graph.rs", of("graph")),
@@ -65,14 +71,13 @@ FILES = [
     ("models", "models/scene.rs", of("scene")),
     ("models", "models/world.rs", of("entities", as_name="world")),
     ("models", "models/scheduler.rs", of("scheduler")),
-    ("models", "models/proved.rs", {**MAPS, **{name: PROVED for name in ["Map", "copy", "made", "old", "other", "Sparse", "$map"]}}),
+    ("models", "models/proved.rs", {**all_of(PROVED), "fallible": PROVED, "Sparse": PROVED_SIDE[1:], "entry": PROVED_ENTRIES}),
     ("refused", "memory/refused_maps.rs", MAPS),
     ("refused", "memory/refused_runs.rs", {}),
     ("refused", "memory/refused_structures.rs", {**OF_STRUCTURES, "parts": ["scene::Scene"]}),
     ("counted", "memory/counted_maps.rs", MAPS),
     ("counted", "memory/counted_structures.rs", {**OF_STRUCTURES, "taken": ["list::StableList"]}),
-    ("requires", "requires.rs", {"map": PRIMARY + SIDE, "basic": PROVED_PRIMARY[:1], "dense": PROVED_PRIMARY[1:2], "hop": PROVED_PRIMARY[2:],
-                                 "secondary": PROVED_SIDE[:1], "sparse": PROVED_SIDE[1:], "$map": PROVED, "structure": STRUCTURES}),
+    ("requires", "requires.rs", {"map": PRIMARY + SIDE, "$map": PROVED, "dense": PROVED_PRIMARY[1:2], "structure": STRUCTURES}),
     ("panics", "panics.rs", MAPS),
     ("panics", "panics_structures.rs", {**OF_STRUCTURES, "lists": ["list::StableList", "lists::StableLists"]}),
     ("others", "differences/zero_sized.rs", {**MAPS, **OF_STRUCTURES}),
@@ -140,9 +145,16 @@ class Crate:
         return [path for path, number in self.found.items() if self.item(number)[1] == "function"]
 
 
-OPERATORS = {"index": r"{name}\[", "index_mut": r"{name}\[[^\]]*\] (?:=|\+=) ", "eq": r"{name} [!=]= |[!=]= (?:self\.|\*)?{name}\b|assert_eq!\((?:self\.)?{name}, ",
-             "fmt": r"\{{{name}:#?\?\}}|\{{:#?\?\}}[^\n]*(?:self\.|state\.|&)?{name}\b", "into_iter": r"for [^\n]* in &?(?:mut )?(?:self\.)?{name} ",
-             "from": r"\b{name}\.into\(\)", "from_iter": r"collect::<{name}>"}
+# Other forms of a call, with the name of the variable or the type in them.
+OPERATORS = {
+    "index": r"{name}\[",
+    "index_mut": r"{name}\[[^\]]*\] (?:=|\+=) ",
+    "eq": r"{name} [!=]= |[!=]= (?:self\.|\*)?{name}\b|assert_eq!\((?:self\.)?{name}, ",
+    "fmt": r"\{{{name}:#?\?\}}|\{{:#?\?\}}[^\n]*(?:self\.|state\.|&)?{name}\b",
+    "into_iter": r"for [^\n]* in &?(?:mut )?(?:self\.)?{name} ",
+    "from": r"\b{name}\.into\(\)",
+    "from_iter": r"collect::<{name}>",
+}
 
 
 def named(text, name, call):

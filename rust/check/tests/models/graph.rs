@@ -323,7 +323,8 @@ fn shown() {
     let (a, b) = (graph.add_node("a").ok().expect("memory"), graph.add_node("b").ok().expect("memory"));
     let edge = graph.add_edge(a, b, 7).ok().expect("memory");
     let text = format!("{graph:?}");
-    for part in [format!("{a:?}: \"a\""), format!("{b:?}: \"b\""), format!("{edge:?}: Edge"), "1v1), to: ".into(), "2v1), value: 7".into()] {
-        assert!(text.contains(&part), "{part} in {text}");
+    let keys = [format!("{a:?}: \"a\""), format!("{b:?}: \"b\""), format!("{edge:?}: Edge")];
+    for part in keys.iter().map(String::as_str).chain(["1v1), to: ", "2v1), value: 7"]) {
+        assert!(text.contains(part), "{part} in {text}");
     }
 }

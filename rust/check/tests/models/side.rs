@@ -458,8 +458,8 @@ fn made_with_room() {
         let hasher = std::collections::hash_map::RandomState::new();
         let map: SparseSecondaryMap<NodeKey, u64, _> = SparseSecondaryMap::with_capacity_and_hasher(capacity, hasher.clone());
         assert!(map.is_empty() && map.capacity() >= capacity);
-        let map: SparseSecondaryMap<NodeKey, u64, _> = SparseSecondaryMap::try_with_capacity_and_hasher(capacity, hasher.clone()).expect("memory");
-        assert!(map.is_empty() && map.capacity() >= capacity);
+        let made = SparseSecondaryMap::<NodeKey, u64, _>::try_with_capacity_and_hasher(capacity, hasher.clone()).expect("memory");
+        assert!(made.is_empty() && made.capacity() >= capacity);
         let mut map: SparseSecondaryMap<NodeKey, u64, _> = SparseSecondaryMap::with_hasher(hasher);
         assert_eq!((map.insert(key_of(3, 1), 5), map.len()), (None, 1));
     }
