@@ -167,6 +167,8 @@ fn proved_slices(fallible: &mut fallible::DenseSlotMap<DefaultKey, u64>, key: De
     assert_eq!(free!(fallible.keys_as_slice().len()), free!(fallible.values_as_slice().len()));
     assert_eq!(free!(fallible.as_slices().0.len()), free!(fallible.as_mut_slices().1.len()));
     assert_eq!(free!(fallible.values_as_mut_slice().len()), free!(fallible.values_mut().count()));
+    let count = fallible.len();
+    assert_eq!(free!(fallible.iter_mut().count()), count);
     let other = fallible.keys().find(|other| *other != key).expect("two keys");
     let (one, two) = free!(fallible.get_disjoint_unchecked_mut([key, other]));
     assert!(one != two);
