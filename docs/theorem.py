@@ -20,16 +20,16 @@ from sources import items_of
 
 PAGE = os.path.join(TOP, "docs/THEOREM.md")
 CRATE, CALLS = "slotmap_run", ("run_new", "run_detaching_new")
-FIRST = 100
+FIRST = 110
 # The definitions of the first part: each law after those that it rests on.
-LAWS = "Knowledge Agrees AgreesLive taken_out told Reads ReadsWhatWasPut IndexStaysSmall".split()
+LAWS = "Knowledge Agrees AgreesLive taken_out settled IsNewest told Reads ReadsWhatWasPut IndexStaysSmall".split()
 # Six commands on a new map, which all concern the key k, with their replies.
 EXAMPLE = [
     ("Insert(5)", "Key(k)"),
     ("Replace(k, 6)", "Put(Ok(5))"),
-    ("Get(k)", "Looked(Some(seen))"),
     ("Retain", "Done"),
-    ("Remove(k)", "Taken(None)"),
+    ("Get(k)", "Looked(Some(seen))"),
+    ("Remove(k)", "Taken(Some(7))"),
     ("Contains(k)", "Flag(false)"),
 ]
 # The files of slotmap_core/specs in reading order, with what each is about.
@@ -148,18 +148,29 @@ def equations(definition):
     return [it.split(" = ", 1) for it in joined]
 
 
+def settled_after(by_name, value, reply, known):
+    """What is known of k once a reply shows it, where the reply is `Looked(Some(seen))` or says that k isn't live."""
+    shown = "Some more" if "Some" in reply else "None"
+    for head, value in equations(by_name["settled"]):
+        if head in (f"settled ({shown}) {known}", f"settled {shown} {known}"):
+            return value.replace("more", "(seen ∷ [])")
+    return known
+
+
 def known_after(by_name, command, reply, known):
     """What is known of k by the equations of the definition `told`, where the command and the reply name k."""
     for head, value in equations(by_name["told"]):
         pattern = re.match(r"told k \((?:detaching\.Plain \(?)?\w+\.(\w+)((?: \w+)*)\)+ \(?reply\.(\w+)", head)
         if not pattern or (pattern.group(1), pattern.group(3)) != (re.match(r"\w+", command).group(), re.match(r"\w+", reply).group()):
             continue
-        chosen = re.match(r"if .* then (.*) else known$", value)
+        chosen = re.match(r"if eq_by_cmp .*? then (?:\(if is_\w+ \w+ then )?(.*?) else ", value)
         value = chosen.group(1) if chosen else value
-        if value.startswith("elim known"):
-            return re.search(rf"[\[|] {known.split()[0]}(?: \w+)? ↦ (\w+)", value).group(1)
         if value == "taken_out known":
-            return next(value for head, value in equations(by_name["taken_out"]) if head.split()[1] in (known.split()[0], "_"))
+            value = equations(by_name["taken_out"])[0][1]
+        if value.startswith("elim known"):
+            return re.search(rf"[\[|] (?:{known.split()[0]}(?: \w+)?|_) ↦ (\w+)", value).group(1)
+        if value.startswith("settled"):
+            return settled_after(by_name, value, reply, known)
         return value.replace(" v", " " + command.rstrip(")").split("(")[-1].split(", ")[-1])
     return known
 
@@ -169,12 +180,11 @@ def laws(found):
     by_name = {it.name: it for it in found}
     lines = ["# What was put is what is got", ""]
     lines += wrapped(
-        "`run_new` runs a list of [commands](api/runs.md) on a new map, and returns it with the replies. For a reader its clauses `laws` and `index_stays_small` promise this. "
-        "There is one reply for each command, of its kind or one that says why it failed. It agrees with what the commands before it and their replies tell, where each key is "
-        "`absent` at first (`ReadsWhatWasPut`). An insert returns an `absent` key, which is never `absent` again: so no two inserts return the same key. In a list of fewer than "
-        "2^32 commands no index is above the most keys at one moment, counted from the replies (`IndexStaysSmall`, from three zeros). Here `data_of` reads a key's index and version, "
-        f"and `looks v r` says that `look` may return r for the value v. These laws rest on the {len(LAWS)} definitions below, on keys, and on no map, slot or machine. "
-        "`docs/theorem.py` writes this page.", width=190)
+        "`run_new` runs a list of [commands](api/runs.md) on a new map, and returns it with the replies. By its clauses `laws` and `index_stays_small` there is one reply for each command, of "
+        "its kind or one that says why it failed, and it agrees with what the commands before it and their replies tell, where each key is `absent` at first (`ReadsWhatWasPut`). An insert "
+        "returns an `absent` key, which is never `absent` again: so no two inserts return the same key. It is newer than each key that was returned at its index before, none of which is live or "
+        "detached then. In a list of fewer than 2^32 commands no index is above the most keys at one moment (`IndexStaysSmall`, from three zeros). Here `data_of` reads a key's index and "
+        f"version, and `looks v r` says that `look` may return r for v. The laws rest on these {len(LAWS)} definitions, on keys, and on no map, slot or machine.", width=190)
     lines += ["", "```text"]
     around = []
     for name in LAWS:
@@ -188,14 +198,13 @@ def laws(found):
         known = known_after(by_name, command, reply, known)
         after.append(known)
     rows = [("Command", [it[0] for it in EXAMPLE]), None, ("Reply", [it[1] for it in EXAMPLE]), ("Known of `k`", after)]
-    lines += ["```", "", "An example: what is known of the key `k` after each of six commands.", ""]
+    lines += ["```", ""]
     lines += ["|---" * (len(EXAMPLE) + 1) + "|" if row is None else f"| {row[0]} | " + " | ".join(f"`{it}`" for it in row[1]) + " |" for row in rows]
     lines += [""]
     lines += wrapped(
-        "These laws leave open which keys a `Retain` keeps, and which values it leaves. Nor do they tell which `absent` key an insert returns, or the value of an `InsertWith`. And they "
-        "don't tell when the map is full, memory runs out, `make` fails or a `Reserve` is too great. [The steps](#the-steps) of the second part tell that, and what the closures `make` "
-        "and `keep` may do. The other laws of `Laws` and `DetachLaws` stand there too. By `GoneForGood` a live key that isn't found after a `Retain` is never found again. "
-        "By `ReserveHolds` the next n inserts after a `Reserve` of n find room and memory.", width=190)
+        "These laws leave open which keys a `Retain` keeps, and which values it leaves: don't conclude that one is as it was. Once a reply shows a value, later replies agree with it; so of an "
+        "`InsertWith`. Nor do they tell which `absent` key comes next, or when the map is full, memory runs out, `make` fails or a `Reserve` is too great. [The steps](#the-steps) of the second "
+        "part tell that. The other laws of `Laws` and `DetachLaws` stand there too: by `ReserveHolds` the next n inserts after a `Reserve` of n find room and memory.", width=190)
     return lines
 
 

@@ -178,7 +178,7 @@ LastFreedFirst data_of commands replies =
 -- `looks` says what a Get may return for a value, and `start` what is known of each key at first
 module _ {K V R E : Type 0} (data_of : K → Key) (looks : V → R → Type 0) where
   -- what holds of the replies to every list of commands
-  pub record Laws (start : Key → Knowledge V) (commands : List (Command K V)) (replies : List (Reply K V R E)) : Type 0 where
+  pub record Laws (start : Key → Knowledge V R) (commands : List (Command K V)) (replies : List (Reply K V R E)) : Type 0 where
     pub reads : ReadsWhatWasPut data_of looks start (list_map detaching.Plain commands) replies
     pub no_key_twice : NoKeyTwice data_of replies
     pub removed_for_good : RemovedForGood data_of detaching.Plain commands replies
@@ -186,7 +186,7 @@ module _ {K V R E : Type 0} (data_of : K → Key) (looks : V → R → Type 0) w
     pub reserve_holds : ReserveHolds (λ command. command) needs_room commands replies
 
   -- the same on a map whose keys can be detached
-  pub record DetachLaws (reuses : Bool) (start : Key → Knowledge V) (commands : List (DetachCommand K V)) (replies : List (Reply K V R E)) : Type 0 where
+  pub record DetachLaws (reuses : Bool) (start : Key → Knowledge V R) (commands : List (DetachCommand K V)) (replies : List (Reply K V R E)) : Type 0 where
     pub reads : ReadsWhatWasPut data_of looks start commands replies
     pub no_key_twice : NoKeyTwice data_of replies
     pub removed_for_good : RemovedForGood data_of (λ command. command) commands replies

@@ -13,6 +13,10 @@ ghost use Rattle.slotmap_core.specs.Words.{sem, Lends};
 /// The code of `unreachable!` is a trap behind a test. Here an impossible write, beyond every slice,
 /// precedes it. LLVM knows that no such write runs, and drops the test.
 ///
+/// So this is only as safe as what the proof rests on. If a contract of the kit is wrong and the case
+/// occurs, the program doesn't end there as with a trap: what it does then is undefined. A trap
+/// costs some 12 to 31 instructions in a removal and an insert. A build as Rust has no such write.
+///
 /// ```
 /// rule_out(false);
 /// ```

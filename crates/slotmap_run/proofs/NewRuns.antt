@@ -28,15 +28,16 @@ module _ {V C R : Type 0} (Step : State V → C → R → State V → Type 0) (c
       let run = follows.run (first_state reuses old ok) (first_fits reuses old ok) in record { first = first_state reuses old ok; good = first_good reuses old ok; last = run.0; run = run.1 }
 
 -- a machine whose closures may do anything beside one with closures, and what follows from their runs
-pub record IsLawful {V C R : Type 0} (Step Any : State V → C → R → State V → Type 0) (Laws AnyLaws : (Key → Knowledge V) → List C → List R → Type 0) : Type 0 where
+pub record IsLawful {V C R X : Type 0} (looks any_looks : V → X → Type 0) (Step Any : State V → C → R → State V → Type 0)
+    (Laws AnyLaws : (Key → Knowledge V X) → List C → List R → Type 0) : Type 0 where
   pub freely : (old : State V) (c : C) (r : R) (new : State V) → Step old c r new → Any old c r new
-  pub laws : (cs : List C) (rs : List R) (well : RunsWell Step cs rs) (start : Key → Knowledge V) → HoldsIn start well.first → Laws start cs rs
-  pub any_laws : (cs : List C) (rs : List R) (well : RunsWell Any cs rs) (start : Key → Knowledge V) → HoldsIn start well.first → AnyLaws start cs rs
+  pub laws : (cs : List C) (rs : List R) (well : RunsWell Step cs rs) (start : Key → Knowledge V X) → HoldsIn looks start well.first → Laws start cs rs
+  pub any_laws : (cs : List C) (rs : List R) (well : RunsWell Any cs rs) (start : Key → Knowledge V X) → HoldsIn any_looks start well.first → AnyLaws start cs rs
   -- if nothing is retired at the end, nothing ever was
   pub unretired : (cs : List C) (rs : List R) (s t : State V) → Run Step s cs rs t → retired t ≡ set.empty → Run (Unretiring Step) s cs rs t
 
-module _ {V C R : Type 0} {Step Any : State V → C → R → State V → Type 0} {Laws AnyLaws : (Key → Knowledge V) → List C → List R → Type 0}
-    (machine : IsLawful Step Any Laws AnyLaws) (cs : List C) (rs : List R) where
+module _ {V C R X : Type 0} {looks any_looks : V → X → Type 0} {Step Any : State V → C → R → State V → Type 0} {Laws AnyLaws : (Key → Knowledge V X) → List C → List R → Type 0}
+    (machine : IsLawful looks any_looks Step Any Laws AnyLaws) (cs : List C) (rs : List R) where
   follows_freely : (old new : Content V) → RunFollows Step old cs rs new → RunFollows Any old cs rs new
   follows_freely old new follows = record {
     run = λ s fits. let run = follows.run s fits in (run.0, run_seen Step Any (λ s. s) machine.freely cs rs s run.0 run.1, run.2);
@@ -63,12 +64,12 @@ module _ {V C R : Type 0} {Step Any : State V → C → R → State V → Type 0
           laws =
               λ first earlier told start before. machine.any_laws (earlier ++ cs) (told ++ rs)
               (well_from Any (earlier ++ cs) (told ++ rs) reuses first new start.valid (goes_on Any old new cs rs free earlier told first before))
-              (known_from first) (holds_from first (first_state reuses first start.valid) (first_good reuses first start.valid) refl refl);
+              (known_from first) (holds_from any_looks first (first_state reuses first start.valid) (first_good reuses first start.valid) refl refl);
           anew = λ earlier told before. goes_on_anew Any old new cs rs free earlier told before;
           laws_anew = λ earlier told before. machine.any_laws (earlier ++ cs) (told ++ rs)
-              (well_anew Any (earlier ++ cs) (told ++ rs) new (goes_on_anew Any old new cs rs free earlier told before)) (λ k. absent) holds_at_first;
+              (well_anew Any (earlier ++ cs) (told ++ rs) new (goes_on_anew Any old new cs rs free earlier told before)) (λ k. absent) (holds_at_first any_looks);
         };
-        laws = machine.laws cs rs (well_from Step cs rs reuses old new ok follows) (known_from old) (holds_from old (first_state reuses old ok) (first_good reuses old ok) refl refl);
+        laws = machine.laws cs rs (well_from Step cs rs reuses old new ok follows) (known_from old) (holds_from looks old (first_state reuses old ok) (first_good reuses old ok) refl refl);
       }
 
   -- what is ensured of calls on a new map
@@ -91,11 +92,11 @@ module _ {V C R : Type 0} {Step Any : State V → C → R → State V → Type 0
             let lasts = follows.lasts 0 (rw same (new_lasts old start (length cs) few)) in
             (run.0, machine.unretired cs rs empty_state run.0 run.1 (run.2.retired ∙ lasts.unretired), run.2);
         goes_on = free;
-        laws = machine.laws cs rs (well_anew Step cs rs new run) (λ k. absent) holds_at_first;
+        laws = machine.laws cs rs (well_anew Step cs rs new run) (λ k. absent) (holds_at_first looks);
       }
 
-module _ {V C R A B : Type 0} {Step Any : State V → C → R → State V → Type 0} {Laws AnyLaws : (Key → Knowledge V) → List C → List R → Type 0} (machine : IsLawful Step Any Laws AnyLaws)
-    (cs : List C) (result : Result A B) (told : A → List R) where
+module _ {V C R X A B : Type 0} {looks any_looks : V → X → Type 0} {Step Any : State V → C → R → State V → Type 0} {Laws AnyLaws : (Key → Knowledge V X) → List C → List R → Type 0}
+    (machine : IsLawful looks any_looks Step Any Laws AnyLaws) (cs : List C) (result : Result A B) (told : A → List R) where
   -- what a function ensures that runs calls on a map, a field for each clause
   pub record RanIfOk (reuses : Bool) (old new : Content V) : Type 0 where
     pub run : IfOk result (λ a. RunFollows Step old cs (told a) new)

@@ -13,7 +13,7 @@ use Rattle.slotmap_core.specs.declared.commands.DetachCommand.TheVariants as det
 
 module _ {K V R E : Type 0} (given : RunGiven K V R E) where
   laws : (commands : List (Command K V)) (replies : List (Reply K V R E)) (well : RunsWell (Step given) commands replies)
-      (start : Key → Knowledge V) → HoldsIn start well.first → Laws given.data_of given.looks start commands replies
+      (start : Key → Knowledge V R) → HoldsIn given.looks start well.first → Laws given.data_of given.looks start commands replies
   laws cs rs well start holds = let m = plain_machine given in record {
     reads = reads_what_was_put given detaching.Plain cs rs well.first well.last well.run start holds;
     no_key_twice = (told_new m cs rs well.first well.last well.run).1;
@@ -23,7 +23,7 @@ module _ {K V R E : Type 0} (given : RunGiven K V R E) where
   }
 
   detach_laws : (commands : List (DetachCommand K V)) (replies : List (Reply K V R E)) (well : RunsWell (DetachStep given) commands replies)
-      (start : Key → Knowledge V) → HoldsIn start well.first → DetachLaws given.data_of given.looks given.reuses start commands replies
+      (start : Key → Knowledge V R) → HoldsIn given.looks start well.first → DetachLaws given.data_of given.looks given.reuses start commands replies
   detach_laws cs rs well start holds = let m = detach_machine given in record {
     reads = subst (λ l. ReadsWhatWasPut given.data_of given.looks start l rs) (map-id cs) (reads_what_was_put given (λ command. command) cs rs well.first well.last well.run start holds);
     no_key_twice = (told_new m cs rs well.first well.last well.run).1;
@@ -36,16 +36,16 @@ module _ {K V R E : Type 0} (given : RunGiven K V R E) where
   }
 
 module _ {K V R E : Type 0} (given : RunGiven K V R E) where
-  pub plain_lawful : IsLawful (Step given) (Step (any_closures given.data_of given.reuses)) (Laws given.data_of given.looks) (Laws given.data_of (λ v r. Unit {0}))
+  pub plain_lawful : IsLawful given.looks (λ v r. Unit {0}) (Step given) (Step (any_closures given.data_of given.reuses)) (Laws given.data_of given.looks) (Laws given.data_of (λ v r. Unit {0}))
   plain_lawful = record { freely = freely given; laws = laws given; any_laws = laws (freed given); unretired = unretired (plain_machine given) }
 
-  pub detach_lawful : IsLawful (DetachStep given) (DetachStep (any_closures given.data_of given.reuses))
+  pub detach_lawful : IsLawful given.looks (λ v r. Unit {0}) (DetachStep given) (DetachStep (any_closures given.data_of given.reuses))
       (DetachLaws given.data_of given.looks given.reuses) (DetachLaws given.data_of (λ v r. Unit {0}) given.reuses)
   detach_lawful = record { freely = detach_freely given; laws = detach_laws given; any_laws = detach_laws (freed given); unretired = unretired (detach_machine given) }
 
 module _ {M K V R E C A B : Type 0} (Machine : RunGiven K V R E → State V → C → Reply K V R E → State V → Type 0) (of : C → DetachCommand K V) (given : RunGiven K V R E)
-    {Any : State V → C → Reply K V R E → State V → Type 0} {Laws AnyLaws : (Key → Knowledge V) → List C → List (Reply K V R E) → Type 0}
-    (machine : IsLawful (Machine given) Any Laws AnyLaws)
+    {Any : State V → C → Reply K V R E → State V → Type 0} {Laws AnyLaws : (Key → Knowledge V R) → List C → List (Reply K V R E) → Type 0}
+    {looks any_looks : V → R → Type 0} (machine : IsLawful looks any_looks (Machine given) Any Laws AnyLaws)
     (content : M → Content V) (cs : List C) (result : Result A B) (told : A → List (Reply K V R E)) where
   -- the commands are run on a map, one after the other
   abbrev pub Serves : List (Reply K V R E) → M → M → Type 0

@@ -24,6 +24,7 @@ tallied (detaching.Detach k) (reply.Taken (Some v)) n = record n { live = n.live
 tallied (detaching.Reattach k v) reply.Done n = record n { live = n.live + 1; detached = n.detached - 1 }
 tallied (detaching.Plain command.Clear) reply.Done n = record n { live = 0 }
 tallied (detaching.Plain command.Drain) (reply.Drained pairs) n = record n { live = 0 }
+tallied (detaching.Plain command.Len) (reply.Len m) n = record n { live = m }
 tallied _ _ n = n
 
 -- the state has no more keys than these, and no key is retired
@@ -66,12 +67,15 @@ module _ {K V R E : Type 0} (given : RunGiven K V R E) (old : State V) (c : Deta
   small : (n : Tally) → IsTallied old n → (k : K) → r ≡ reply.Key k → (given.data_of k).index ≤ (tallied c r n).most
   small n t k is = grind (arith, t.live, t.detached, t.peak, t.unretired)
 
+  counted : (n : Tally) → IsTallied old n → (m : ℕ) → c ≡ detaching.Plain command.Len → r ≡ reply.Len m → m ≤ n.live
+  counted n t m asks is = grind (arith, t.live, asks, is)
+
 module _ {K V R E : Type 0} (data_of : K → Key) (c : DetachCommand K V) (r : Reply K V R E) (cs : List (DetachCommand K V)) (rs : List (Reply K V R E)) (n : Tally) where
   abbrev Small : Tally → List (DetachCommand K V) → List (Reply K V R E) → Type 0
   Small n cs rs = IndexStaysSmall data_of n.live n.detached n.most cs rs
 
-  small_step : ((k : K) → r ≡ reply.Key k → (data_of k).index ≤ (tallied c r n).most) → Small (tallied c r n) cs rs → Small n (c ∷ cs) (r ∷ rs)
-  small_step here rest = grind arith
+  small_step : ((k : K) → r ≡ reply.Key k → (data_of k).index ≤ (tallied c r n).most) → ((m : ℕ) → c ≡ detaching.Plain command.Len → r ≡ reply.Len m → m ≤ n.live) → Small (tallied c r n) cs rs → Small n (c ∷ cs) (r ∷ rs)
+  small_step here counts rest = grind (arith, counts)
 
 module _ {K V R E C : Type 0} (given : RunGiven K V R E) (of : C → DetachCommand K V) where
   abbrev FreeStep : State V → C → Reply K V R E → State V → Type 0
@@ -82,7 +86,7 @@ module _ {K V R E C : Type 0} (given : RunGiven K V R E) (of : C → DetachComma
   all_small [] [] s t run n h = tt
   all_small (c ∷ cs) (r ∷ rs) s t run n h =
       let none = ap set.len run.1.1 ∙ set.len-empty key_cmp in
-      small_step given.data_of (of c) r (list_map of cs) rs n (small given s (of c) r run.0 run.1.0 n h)
+      small_step given.data_of (of c) r (list_map of cs) rs n (small given s (of c) r run.0 run.1.0 n h) (counted given s (of c) r run.0 run.1.0 n h)
       (all_small cs rs run.0 t run.2 (tallied (of c) r n) (still_tallied given s (of c) r run.0 run.1.0 n h none))
   all_small _ _ s t run n h = absurd run
 

@@ -1,9 +1,9 @@
 -- Wrong replies that the laws of a run refuse, with nothing known but the laws: no machine, no map.
-use Rattle.std.proofs.Common.{◌≡◌, ◌≢◌, ◌∷◌, ℕ}
+use Rattle.std.proofs.Common.{◌≡◌, ◌≢◌, ◌<◌, ◌∷◌, ℕ}
 use Rattle.std.specs.FinSet as set
 use Rattle.std.specs.Global.{Vec}
-use Rattle.slotmap_run.proofs.Common.{DetachCommand, Reply, Key, NoKeyTwice, absent, ReadsWhatWasPut, Plain, Detach, Reattach, keys_total, exact_keys, itself, tied}
-use Rattle.slotmap_core.proofs.Common.{IsDistinct, key_cmp, List, [], Some, None, Option, Ok, arith}
+use Rattle.slotmap_run.proofs.Common.{DetachCommand, Reply, Key, NoKeyTwice, absent, ReadsWhatWasPut, IndexStaysSmall, Plain, Detach, Reattach, keys_total, exact_keys, itself, tied}
+use Rattle.slotmap_core.proofs.Common.{IsDistinct, key_cmp, List, [], Some, None, Option, Ok, true, false, arith}
 use Rattle.slotmap_core.specs.declared.commands.Command.TheVariants as command
 use Rattle.slotmap_core.specs.declared.commands.Reply.TheVariants as reply
 
@@ -86,3 +86,46 @@ module _ {K V R : Type 0} (E : Type 0) (data_of : K → Key) (looks : V → R �
       let one = set.insert (set.empty {R = key_cmp}) (data_of k) in
       let same : law.1.0.0 ≡ one = set.same_set keys_total exact_keys law.1.0.0 one (λ q. grind (arith, law.1.0.2 q, set.contains-insert keys_total (set.empty {R = key_cmp}) (data_of k) q, set.contains-empty key_cmp q)) in
       grind (arith, same, law, set.len-insert keys_total (set.empty {R = key_cmp}) (data_of k), set.contains-empty key_cmp (data_of k), set.len-empty key_cmp)
+
+  -- a key that was shown to be live after a Retain doesn't vanish
+  pub not_vanishing : (k : K) (v : V) → Reads (Plain (command.Insert v) ∷ Plain command.Retain ∷ Plain (command.Contains k) ∷ Plain (command.Contains k) ∷ [])
+      (reply.Key k ∷ reply.Done ∷ reply.Flag true ∷ reply.Flag false ∷ []) → ⊥
+  not_vanishing k v law = grind (arith, law, itself keys_total exact_keys (data_of k))
+
+  -- and one that was shown not to be live stays out
+  pub not_revived : (k : K) (v : V) (r : R) → Reads (Plain (command.Insert v) ∷ Plain command.Retain ∷ Plain (command.Get k) ∷ Plain (command.Get k) ∷ [])
+      (reply.Key k ∷ reply.Done ∷ reply.Looked None ∷ reply.Looked (Some r) ∷ []) → ⊥
+  not_revived k v r law = grind (arith, law, itself keys_total exact_keys (data_of k))
+
+  -- two looks show one value
+  pub shows_one_value : (k : K) (v : V) (r s : R) → Reads (Plain (command.Insert v) ∷ Plain command.Retain ∷ Plain (command.Get k) ∷ Plain (command.Get k) ∷ [])
+      (reply.Key k ∷ reply.Done ∷ reply.Looked (Some r) ∷ reply.Looked (Some s) ∷ []) → (w : V) × looks w r × looks w s
+  shows_one_value k v r s law = grind (arith, law, itself keys_total exact_keys (data_of k))
+
+  -- so after an InsertWith
+  pub shows_what_was_made : (k : K) (r s : R) → Reads (Plain command.InsertWith ∷ Plain (command.Get k) ∷ Plain (command.Get k) ∷ [])
+      (reply.Key k ∷ reply.Looked (Some r) ∷ reply.Looked (Some s) ∷ []) → (w : V) × looks w r × looks w s
+  shows_what_was_made k r s law = grind (arith, law, itself keys_total exact_keys (data_of k))
+
+  -- a Remove returns the value that was seen
+  pub takes_what_was_seen : (k : K) (r : R) (w : V) → Reads (Plain command.InsertWith ∷ Plain (command.Get k) ∷ Plain (command.Remove k) ∷ [])
+      (reply.Key k ∷ reply.Looked (Some r) ∷ reply.Taken (Some w) ∷ []) → looks w r
+  takes_what_was_seen k r w law = grind (arith, law, itself keys_total exact_keys (data_of k))
+
+  -- no two live keys have one index
+  pub not_one_index : (k q : K) (v w : V) → (data_of k).index ≡ (data_of q).index → Reads (Plain (command.Insert v) ∷ Plain (command.Insert w) ∷ []) (reply.Key k ∷ reply.Key q ∷ []) → ⊥
+  not_one_index k q v w same law = grind (arith, law, law.1.0.2 (data_of k), same, itself keys_total exact_keys (data_of k), tied keys_total exact_keys (data_of k) (data_of q))
+
+  -- no key is older than an earlier one at its index
+  pub not_older : (k q : K) (v w : V) → (data_of k).index ≡ (data_of q).index → (data_of q).version < (data_of k).version
+      → Reads (Plain (command.Insert v) ∷ Plain (command.Remove k) ∷ Plain (command.Insert w) ∷ []) (reply.Key k ∷ reply.Taken (Some v) ∷ reply.Key q ∷ []) → ⊥
+  not_older k q v w same older law = grind (arith, law, law.1.1.0.2 (data_of k), same, older, itself keys_total exact_keys (data_of k), tied keys_total exact_keys (data_of k) (data_of q))
+
+  -- index 0 isn't returned
+  pub not_zero : (k : K) (v : V) → (data_of k).index ≡ 0 → Reads (Plain (command.Insert v) ∷ []) (reply.Key k ∷ []) → ⊥
+  not_zero k v at law = omega (arith, at, law.0.1)
+
+  -- the number of keys doesn't rise without an insert
+  pub not_more : (k : K) (v : V) → IndexStaysSmall {R = R} {E = E} data_of 0 0 0 (Plain (command.Insert v) ∷ Plain command.Retain ∷ Plain command.Len ∷ Plain command.Len ∷ [])
+      (reply.Key k ∷ reply.Done ∷ reply.Len 0 ∷ reply.Len 1 ∷ []) → ⊥
+  not_more k v law = omega (arith, law.1.1.0)

@@ -51,26 +51,26 @@ module _ {K V R E : Type 0} (data_of : K → Key) (k : Key) where
   Finds looks v _ _ = Unit {0}
 
   module _ (v : V) (c : DetachCommand K V) (r : Reply K V R E) where
-    put_told : (known : Knowledge V) → Puts v c r → told data_of k c r known ≡ has v
+    put_told : (known : Knowledge V R) → Puts v c r → told data_of k c r known ≡ has v
     put_told known puts = grind (arith, itself keys_total exact_keys k)
 
-    still_known : (looks : V → R → Type 0) (known : Key → Knowledge V) → known k ≡ has v → LeavesAlone data_of k c → Reads data_of looks known c r
+    still_known : (looks : V → R → Type 0) (known : Key → Knowledge V R) → known k ≡ has v → LeavesAlone data_of k c → Reads data_of looks known c r
         → told data_of k c r (known k) ≡ has v
     still_known looks known is alone reads = grind (arith, is, tied keys_total exact_keys)
 
-    known_found : (looks : V → R → Type 0) (known : Key → Knowledge V) → known k ≡ has v → Reads data_of looks known c r → Finds looks v c r
+    known_found : (looks : V → R → Type 0) (known : Key → Knowledge V R) → known k ≡ has v → Reads data_of looks known c r → Finds looks v c r
     known_found looks known is reads = grind (arith, is)
 
 module _ {K V R E : Type 0} (data_of : K → Key) (looks : V → R → Type 0) where
   -- there is one reply for each command
-  pub one_each : (start : Key → Knowledge V) (commands : List (DetachCommand K V)) (replies : List (Reply K V R E)) → ReadsWhatWasPut data_of looks start commands replies
+  pub one_each : (start : Key → Knowledge V R) (commands : List (DetachCommand K V)) (replies : List (Reply K V R E)) → ReadsWhatWasPut data_of looks start commands replies
       → length replies ≡ length commands
   one_each start [] [] law = refl
   one_each start (c ∷ cs) (r ∷ rs) law = ap suc (one_each (λ k. told data_of k c r (start k)) cs rs law.1)
   one_each start _ _ law = absurd law
 
   -- so a command's position has a reply
-  pub answered : (start : Key → Knowledge V) (commands : List (DetachCommand K V)) (replies : List (Reply K V R E)) (j : ℕ) (d : DetachCommand K V)
+  pub answered : (start : Key → Knowledge V R) (commands : List (DetachCommand K V)) (replies : List (Reply K V R E)) (j : ℕ) (d : DetachCommand K V)
       → ReadsWhatWasPut data_of looks start commands replies → slice_get commands j ≡ Some d → (answer : Reply K V R E) × (slice_get replies j ≡ Some answer)
   answered start (c ∷ cs) (r ∷ rs) zero d law is_d = (r, refl)
   answered start (c ∷ cs) (r ∷ rs) (suc j) d law is_d = answered (λ k. told data_of k c r (start k)) cs rs j d law.1 is_d
@@ -79,7 +79,7 @@ module _ {K V R E : Type 0} (data_of : K → Key) (looks : V → R → Type 0) w
 
 module _ {K V R E : Type 0} (data_of : K → Key) (looks : V → R → Type 0) (k : Key) (v : V) where
   module _ (d : DetachCommand K V) (answer : Reply K V R E) where
-    known_read : (j : ℕ) (start : Key → Knowledge V) (cs : List (DetachCommand K V)) (rs : List (Reply K V R E)) → ReadsWhatWasPut data_of looks start cs rs → start k ≡ has v
+    known_read : (j : ℕ) (start : Key → Knowledge V R) (cs : List (DetachCommand K V)) (rs : List (Reply K V R E)) → ReadsWhatWasPut data_of looks start cs rs → start k ≡ has v
         → ((n : ℕ) (b : DetachCommand K V) → n < j → slice_get cs n ≡ Some b → LeavesAlone data_of k b)
         → slice_get cs j ≡ Some d → slice_get rs j ≡ Some answer → Finds data_of k looks v d answer
     known_read j start [] rs law is alone h g = absurd (cc)
@@ -90,7 +90,7 @@ module _ {K V R E : Type 0} (data_of : K → Key) (looks : V → R → Type 0) (
         (still_known data_of k v b q looks start is (alone 0 b (omega arith) refl) law.0) (λ n x less. alone (suc n) x (omega arith)) h g
 
   -- once the command at one position bound k to v, the command at a later one finds v
-  pub put_found : (start : Key → Knowledge V) (commands : List (DetachCommand K V)) (replies : List (Reply K V R E)) (i j : ℕ) (c d : DetachCommand K V) (r answer : Reply K V R E)
+  pub put_found : (start : Key → Knowledge V R) (commands : List (DetachCommand K V)) (replies : List (Reply K V R E)) (i j : ℕ) (c d : DetachCommand K V) (r answer : Reply K V R E)
       → ReadsWhatWasPut data_of looks start commands replies → i < j → StaysPut data_of k commands i j
       → slice_get commands i ≡ Some c → slice_get replies i ≡ Some r → Puts data_of k v c r
       → slice_get commands j ≡ Some d → slice_get replies j ≡ Some answer → Finds data_of k looks v d answer
