@@ -6,8 +6,8 @@ ghost use Rattle.slotmap_core.specs.Words.{YieldsFirstBy, item_count, at_most, U
 use crate::HopSlotMap;
 use crate::blocks::retire;
 use crate::clone::clone_slots;
-use crate::counted::CountedSlots;
-use crate::iter::{fmt_remaining, next_live};
+use crate::iter::counted::{CountedSlots, next_live};
+use crate::iter::fmt_remaining;
 use crate::links::{Slot, back_of};
 use slotmap_core::keys::{Key, KeyData};
 use std::alloc::AllocError;

@@ -1,20 +1,23 @@
 //! Iterators over the keys and values of a map, by ascending index.
 
 ghost use Rattle.std.specs.FinMap as map;
-ghost use Rattle.std.specs.Prelude.{◌≡◌, ◌<◌, ◌≤◌, [], length, slice_get, Some, IfSome, IfNone, ⊤};
+ghost use Rattle.std.specs.Prelude.{◌≡◌, ◌≤◌, length, Some, IfSome, ⊤};
 ghost use Rattle.slotmap_core.specs.Words.{YieldsFirstBy, item_count, at_most, UpTo, IsListing, IsKeyListing, IsValueListing};
 ghost use Rattle.slotmap_hop.specs.HopContent.{IsHopContent};
-ghost use Rattle.slotmap_hop.specs.Iter.{pairs_left, CanGoOn, FindsSlot, StepsOn, ReadsOnTheWay, CountsReads, CountsReadsSomewhere, ListsRetired, StartsIter};
+ghost use Rattle.slotmap_hop.specs.Iter.{CountsReads, CountsReadsSomewhere, ListsRetired, StartsIter};
 
 use crate::HopSlotMap;
-use crate::counted::CountedSlots;
 use crate::links::{Slot, back_of};
-use slotmap_core::keys::{Key, KeyData};
+use slotmap_core::keys::Key;
 use slotmap_core::sure::rule_out;
 use std::alloc::AllocError;
 use std::fmt;
 use std::iter::FusedIterator;
 use std::marker::{Model, PhantomData};
+
+pub(crate) mod counted;
+
+use counted::Walk;
 
 /// An iterator over the live keys and their values, by ascending index: see [`HopSlotMap::iter`].
 ///
@@ -27,49 +30,17 @@ use std::marker::{Model, PhantomData};
 /// After its end it yields nothing. A clone yields the same pairs; cloning allocates nothing.
 #[derive(Drop)]
 pub struct Iter<'a, K, V> {
-    // At the slot to read next: a live or retired one, the first one of a block, or the end.
-    pub(crate) counted: CountedSlots<'a, V>,
-    // How many values are still to come.
-    pub(crate) left: usize,
-    pub(crate) keys: PhantomData<K>,
+    walk: Walk<'a, V>,
+    keys: PhantomData<K>,
 }
 
 impl<'a, K, V> Model for Iter<'a, K, V> {
     ghost use Rattle.slotmap_core.specs.Words.{Key};
-    ghost use Rattle.slotmap_hop.specs.Iter.{HopIter, pairs_left, retired_left, IsIter};
+    ghost use Rattle.slotmap_hop.specs.Iter.{HopIter};
 
     ghost Value = { HopIter (Key × V) };
 
-    ghost view = { λ it. record { rest = pairs_left it.counted.slots it.counted.index; retired = retired_left it.counted.slots it.counted.index; reads = it.counted.reads } };
-
-    ghost invariant = { λ it. IsIter it.counted.slots it.counted.reads it.counted.index it.left };
-}
-
-// Goes to the next live slot from the place on, and returns it. All iterators but `Drain` find their slots here.
-// Since there is one, no place is compared with the end. Unless a slot is retired, the loop ends in
-// its first round.
-pub(crate) fn next_live<'a, V>(counted: &mut CountedSlots<'a, V>) -> &'a Slot<V>
-    requires can { CanGoOn counted.old.slots counted.old.reads counted.old.index }
-    requires some { 0 < length (pairs_left counted.old.slots counted.old.index) }
-    ensures found { FindsSlot counted.old.slots counted.old.index counted.new.index }
-    ensures slot { slice_get counted.old.slots counted.new.index ≡ Some result.now }
-    ensures slots { counted.new.slots ≡ counted.old.slots }
-    ensures reads { ReadsOnTheWay counted.old.slots counted.old.reads counted.old.index counted.new.reads counted.new.index }
-{
-    let first = counted.read();
-    if first.is_live() {
-        return first;
-    }
-    counted.hop(first);
-    loop {
-        let slot = counted.read();
-        if slot.is_live() {
-            return slot;
-        }
-        counted.hop(slot);
-    }
-    rule_out(true);
-    unreachable!()
+    ghost view = { λ it. it.walk };
 }
 
 // What an iterator prints with `{:?}`: its name, and how many items are left.
@@ -94,7 +65,7 @@ impl<'a, K, V> Iter<'a, K, V> {
     pub fn len(&self) -> usize
         ensures { result ≡ length self.now.rest }
     {
-        self.left
+        self.walk.len()
     }
 
     /// Returns how many slots `next` has read. A clone goes on from the count of its original.
@@ -111,27 +82,7 @@ impl<'a, K, V> Iter<'a, K, V> {
     pub fn reads(&self) -> usize
         ensures { result ≡ self.now.reads }
     {
-        self.counted.reads()
-    }
-}
-
-impl<'a, K: Key, V> Iter<'a, K, V> {
-    // The next live key, and its slot.
-    fn step(&mut self) -> Option<(K, &'a Slot<V>)>
-        ensures some { IfSome result (λ r. StepsOn self.old self.new (K.data_of r.0) r.1.now) }
-        ensures none { IfNone result (self.old.rest ≡ []) }
-        ensures unchanged { IfNone result (self.new ≡ self.old) }
-    {
-        if self.left == 0 {
-            return None;
-        }
-        let slot = next_live(&mut self.counted);
-        let slot = self.counted.again(slot);
-        let index = self.counted.index();
-        self.counted.pass();
-        self.left -= 1;
-        let key = K::from(KeyData::exact(index as u32, slot.version()));
-        Some((key, slot))
+        self.walk.reads()
     }
 }
 
@@ -143,7 +94,7 @@ impl<'a, K: Key, V> Iterator for Iter<'a, K, V> {
     ghost remaining = { item_count (λ it. it.rest) };
 
     fn next(&mut self) -> Option<(K, &'a V)> {
-        let (key, slot) = self.step()?;
+        let (key, slot) = self.walk.step()?;
         match slot {
             Slot::Occupied(_, _, value) => Some((key, value)),
             _ => {
@@ -158,7 +109,8 @@ impl<'a, K: Key, V> Iterator for Iter<'a, K, V> {
         ensures upper { IfSome result.1 (UpTo (at_most (length self.now.rest))) }
         ensures exact { result ≡ (length self.now.rest, Some (length self.now.rest)) }
     {
-        (self.left, Some(self.left))
+        let len = self.len();
+        (len, Some(len))
     }
 }
 
@@ -247,7 +199,7 @@ impl<'a, K: Key, V> Iterator for Keys<'a, K, V> {
     ghost remaining = { item_count (λ it. it.rest) };
 
     fn next(&mut self) -> Option<K> {
-        let (key, _) = self.pairs.step()?;
+        let (key, _) = self.pairs.walk.step()?;
         Some(key)
     }
 
@@ -398,8 +350,7 @@ impl<K: Key, V> HopSlotMap<K, V> {
         let slots = self.slots.as_slice();
         let back = back_of(slots, 0) as usize;
         Iter {
-            counted: CountedSlots::new(slots, back),
-            left: self.live_count as usize,
+            walk: Walk::new(slots, back, self.live_count as usize),
             keys: PhantomData,
         }
     }

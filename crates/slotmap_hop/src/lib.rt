@@ -30,7 +30,6 @@ mod access;
 mod blocks;
 mod clear;
 mod clone;
-mod counted;
 mod drain;
 mod insert;
 mod into_iter;

@@ -1,5 +1,5 @@
 use Rattle.slotmap_hop.proofs.Common.{drop-drop, take_rest, arith, common_steps}
-use Rattle.slotmap_hop.proofs.counted.CountedSlots.pass.Goals as goal
+use Rattle.slotmap_hop.proofs.iter.counted.CountedSlots.pass.Goals as goal
 
 pub invariant_of-self : goal.invariant_of-self
 invariant_of-self g c = grind (arith, common_steps, take_rest c.self.inside.rest.now 1, drop-drop 1 c.self.inside.last c.self.inside.slots.now, c.self.invariant.1)

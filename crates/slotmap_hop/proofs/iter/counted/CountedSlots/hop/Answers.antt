@@ -1,6 +1,6 @@
 use Rattle.std.proofs.Common.{◌+◌, ◌<◌}
 use Rattle.slotmap_hop.proofs.Common.{drop-drop, take_rest, arith, common_steps, ap, sym, ◌∙◌, drop, length, hop_none}
-use Rattle.slotmap_hop.proofs.counted.CountedSlots.hop.Goals as goal
+use Rattle.slotmap_hop.proofs.iter.counted.CountedSlots.hop.Goals as goal
 
 pub overflow_add-self : goal.overflow_add-self
 overflow_add-self g c = grind (arith, common_steps)

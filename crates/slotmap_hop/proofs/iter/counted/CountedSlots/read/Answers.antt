@@ -1,5 +1,5 @@
 use Rattle.slotmap_hop.proofs.Common.{arith, common_steps}
-use Rattle.slotmap_hop.proofs.counted.CountedSlots.read.Goals as goal
+use Rattle.slotmap_hop.proofs.iter.counted.CountedSlots.read.Goals as goal
 
 pub overflow_add-self : goal.overflow_add-self
 overflow_add-self g c = grind (arith, common_steps)

@@ -1,7 +1,7 @@
 use Rattle.std.proofs.Common.{◌≡◌}
 use Rattle.slotmap_hop.proofs.Common.{sym, ap, ◌∙◌, arith, same_Some, rules, version_in, Occupied, live_key, live_within, can_go_on, iter_on, left_none}
-use Rattle.slotmap_hop.proofs.iter.Iter.step.Goals.{After-index-index}
-use Rattle.slotmap_hop.proofs.iter.Iter.step.Goals as goal
+use Rattle.slotmap_hop.proofs.iter.counted.Walk.step.Goals.{After-index-index}
+use Rattle.slotmap_hop.proofs.iter.counted.Walk.step.Goals as goal
 
 pub next_live-slot-requires-clause-can : goal.next_live-slot-requires-clause-can
 next_live-slot-requires-clause-can g c = can_go_on c.self.invariant

@@ -1,8 +1,8 @@
 use Rattle.std.proofs.Common.{◌≡◌}
 use Rattle.slotmap_hop.proofs.Common.{sym, ◌∙◌, common_steps, arith, rules, slice_get, Counted, IsRead, way_begins, may_read, finds_here, may_leave, goes_onward, left_here, none_here}
 use Rattle.slotmap_hop.proofs.Common.{refl, ℕ, List, Some, IsAt, Slot}
-use Rattle.slotmap_hop.proofs.iter.next_live.Goals.{Start}
-use Rattle.slotmap_hop.proofs.iter.next_live.Goals as goal
+use Rattle.slotmap_hop.proofs.iter.counted.next_live.Goals.{Start}
+use Rattle.slotmap_hop.proofs.iter.counted.next_live.Goals as goal
 
 -- what was read is the slot at the place then
 slot_here : {V : Type 0} {slots : List (Slot V)} {reads start : ℕ} {now new : Counted V} {s : Slot V} → IsAt slots reads start now → IsRead now s new
