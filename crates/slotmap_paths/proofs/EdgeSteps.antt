@@ -14,13 +14,14 @@ use Rattle.slotmap_graph.specs.Search.{LeadsBy}
 use Rattle.slotmap_graph.proofs.Callers.{edge_listed, listed_edge}
 use Rattle.slotmap_scheduler.specs.Schedule.{Waiting, job_of}
 use Rattle.slotmap_paths.specs.Paths.{PathOf, TracedBelow, TracedBy}
-use Rattle.slotmap_paths.specs.Costs.{HaveCosts, IsStep, IsSum, RefusesPaths, distance, last_edge}
+use Rattle.slotmap_paths.specs.Costs.{HaveCosts, IsStep, IsSum, IsSumBy, RefusesPaths, distance, last_edge}
 use Rattle.slotmap_paths.specs.Searching.{FindsPaths, FollowsEdge, GoesBeyond, IsLatest, Offers, Searching, Visiting, Waits, to_do}
 use Rattle.slotmap_paths.specs.declared.PathError.{PathError}
 use Rattle.slotmap_paths.specs.declared.PathError.TheVariants.{TooLong, Memory}
 use Rattle.slotmap_paths.specs.declared.Reached.{Reached}
 use Rattle.slotmap_paths.specs.declared.search.Candidate.{Candidate}
 use Rattle.slotmap_paths.proofs.Settled.{traced_on, traced_path, settled_latest, settled_least, settling_passed, settling_pushed, settling_settled, settling_skipped, settling_start}
+use Rattle.slotmap.proofs.TableLength.{beside_count}
 use Rattle.slotmap_paths.proofs.Candidates.{first_waits, no_less, others_wait, owed_one}
 
 -- by a clause of a call on its error, or on its success
@@ -93,9 +94,9 @@ module _ (passed ahead rest all : List Key) (k : Key) (so_far : passed ++ ahead 
   walked_on = append_assoc passed (k ∷ []) rest ∙ ap (λ l. passed ++ l) (sym next) ∙ so_far
 
 -- an error is refused where `TooLong` is
-pub refuses : {E : Type 0} (edges : Edges E) (costs : Pairs ℕ) (start : Key) (e : PathError) → (e ≡ TooLong → RefusesPaths edges costs start TooLong) → RefusesPaths edges costs start e
-refuses edges costs start TooLong so = so refl
-refuses edges costs start Memory so = tt
+pub refuses : {E : Type 0} (edges : Edges E) (costs : Pairs ℕ) (most : ℕ) (start : Key) (e : PathError) → (e ≡ TooLong → RefusesPaths edges costs most start TooLong) → RefusesPaths edges costs most start e
+refuses edges costs most start TooLong so = so refl
+refuses edges costs most start Memory so = tt
 
 module _ {K : Type 0} (data_of : K → Key) {N E : Type 0} (s : Seen N E) (costs : Pairs ℕ) (start : Key) where
   -- a node that was reached is live, if the start is
@@ -166,6 +167,13 @@ module _ {K : Type 0} (data_of : K → Key) {N E : Type 0} (s : Seen N E) (costs
       one_more : map.len settled' ≡ suc (map.len settled)
       one_more = grind (arith, puts, live_has_entry true s.nodes v.well settled beside (data_of x.node) live_here, map.len-insert nat_cmp_total settled (data_of x.node).index, none_there)
 
+      -- no more nodes are settled than there are
+      pub visit_few : map.len settled' ≤ map.len s.nodes.live
+      visit_few = beside_count s.nodes settled' (λ q had. elim (same_or_other q (data_of x.node)) [
+        | inl same ↦ rw same live_here
+        | inr other ↦ beside q (grind (arith, apart q other, had))
+      ])
+
       pub visit_latest : IsLatest settled' (data_of x.node) t
       visit_latest = record {
         here = reached;
@@ -211,8 +219,8 @@ module _ {K : Type 0} (data_of : K → Key) {N E : Type 0} (s : Seen N E) (costs
       traced_to : TracedBelow (IsStep s.edges.live costs) distance last_edge start (get settled) (suc (map.len settled)) to (t + cost) (Some k)
       traced_to = rw (← latest.at) (traced_on searching k node to cost latest.here latest.there step)
 
-      pub leads_on : IsSum s.edges.live costs start to (t + cost)
-      leads_on = (traced_to.0, traced_path (IsStep s.edges.live costs) distance last_edge start (get settled) traced_to.0 to (t + cost) (Some k) traced_to.2)
+      pub leads_on : (most : ℕ) → map.len settled ≤ most → IsSumBy s.edges.live costs most start to (t + cost)
+      leads_on most few = (traced_to.0, omega (arith, traced_to.1, few), traced_path (IsStep s.edges.live costs) distance last_edge start (get settled) traced_to.0 to (t + cost) (Some k) traced_to.2)
 
       -- each way to see this edge as a step is this one
       as_one : (a b : Key) (c : ℕ) (r : Reached) → get settled a ≡ Some r → IsStep s.edges.live costs k a b c → (b ≡ to) × (distance r + c ≡ t + cost)
@@ -248,8 +256,9 @@ module _ {K : Type 0} (data_of : K → Key) {N E : Type 0} (s : Seen N E) (costs
         passed_offer goes.1 goes.2 (step_from s.edges.live costs k node ks lists there goes.0 goes.1 goes.2 goes.3) new goes.4
 
     pub beyond : (ks : List Key) → ListsEdges from s.edges.live node ks → 0 < times k ks → GoesBeyond s.edges.live costs t k
-        → (b : Key) × (sum : ℕ) × IsSum s.edges.live costs start b sum × (2 ^ 64 ≤ sum)
-    beyond ks lists there goes = (goes.1, t + goes.2, leads_on goes.1 goes.2 (step_from s.edges.live costs k node ks lists there goes.0 goes.1 goes.2 goes.3), goes.4)
+        → (most : ℕ) → map.len settled ≤ most → (b : Key) × (sum : ℕ) × IsSumBy s.edges.live costs most start b sum × (2 ^ 64 ≤ sum)
+    beyond ks lists there goes most few =
+        (goes.1, t + goes.2, leads_on goes.1 goes.2 (step_from s.edges.live costs k node ks lists there goes.0 goes.1 goes.2 goes.3) most few, goes.4)
 
   -- none waits, and no edge is left
   pub search_ended : (settled : Pairs Reached) (waiting : Waiting (Candidate K)) → waiting ≡ [] → IsJoined s → IsLive s.nodes start

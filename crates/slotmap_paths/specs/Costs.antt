@@ -3,7 +3,7 @@ use Rattle.std.specs.Prelude.{◌≡◌, ℕ, ◌+◌, ◌^◌, ◌<◌, ◌≤�
 use Rattle.std.specs.FinMap as map
 use Rattle.slotmap.specs.Words.{Key, Pairs, contains_key, get}
 use Rattle.slotmap_graph.specs.Parts.{SeenEdge, Edges}
-use Rattle.slotmap_paths.specs.Paths.{Costs, ComesAlong, TracedBy}
+use Rattle.slotmap_paths.specs.Paths.{Costs, ComesAlong, PathOf, TracedBy}
 use Rattle.slotmap_paths.specs.declared.Reached.{Reached}
 use Rattle.slotmap_paths.specs.declared.PathError.{PathError}
 use Rattle.slotmap_paths.specs.declared.PathError.TheVariants.{TooLong, Memory}
@@ -44,10 +44,14 @@ module _ {E : Type 0} (edges : Edges E) (costs : Pairs ℕ) where
   abbrev pub AreTraced : Key → Pairs Reached → Type 0
   AreTraced start found = (x : Key) (r : Reached) → get found x ≡ Some r → (n : ℕ) × (n < map.len found) × IsTraced start found n x r
 
-  -- `TooLong`: a path from the start costs more than 64 bits can hold
-  abbrev pub RefusesPaths : Key → PathError → Type 0
-  RefusesPaths start TooLong = (b : Key) × (s : ℕ) × IsSum start b s × (2 ^ 64 ≤ s)
-  RefusesPaths start Memory = Unit {0}
+  -- the edges of some path from a to b, so many at most, cost s in all
+  abbrev pub IsSumBy : ℕ → Key → Key → ℕ → Type 0
+  IsSumBy m a b s = (n : ℕ) × (n ≤ m) × PathOf IsStep n a b s
+
+  -- `TooLong`: a path from the start, of so many edges at most, costs more than 64 bits can hold
+  abbrev pub RefusesPaths : ℕ → Key → PathError → Type 0
+  RefusesPaths m start TooLong = (b : Key) × (s : ℕ) × IsSumBy m start b s × (2 ^ 64 ≤ s)
+  RefusesPaths m start Memory = Unit {0}
 
 -- the costs of these edges add up to s
 abbrev pub AddUp : Pairs ℕ → List Key → ℕ → Type 0

@@ -204,9 +204,10 @@ fn visit_from<K: Key, N: Drop, E: Drop>(
 
 /// Returns all nodes, each once, in the order in which a depth first search leaves them.
 ///
-/// The search leaves a node once it has left each node that it found from there. So where a path leads
-/// from a node to one behind it, a path leads back, or one leads to a node that is behind both. In a
-/// graph without a cycle each edge begins behind the node where it ends.
+/// The search leaves a node once it has left each node that it found from there. No clause says so;
+/// what follows from it is proved. Where a path leads from a node to one behind it, a path leads back,
+/// or one leads to a node that is behind both. In a graph without a cycle each edge begins behind the
+/// node where it ends: this is a topological order, reversed.
 ///
 /// It takes time linear in the number of slots of nodes, and in the number of edges. It needs no stack:
 /// the open nodes are in a vector. It fails only if memory runs out.
@@ -237,9 +238,9 @@ pub fn post_order<K: Key, N: Drop, E: Drop>(
 /// Returns the nodes that are reachable from this one, each once, in the order in which a depth first
 /// search leaves them. If the node doesn't exist, there are none.
 ///
-/// The order is like that of [`post_order`], and the node itself comes last. It takes time linear in the
-/// number of these nodes and their outgoing edges, and in the largest index of one of them: the marks
-/// are in a `SecondaryMap`. It fails only if memory runs out.
+/// The order is like that of [`post_order`], with the same clause on paths. The node itself comes last.
+/// It takes time linear in the number of these nodes and their outgoing edges, and in the largest index
+/// of one of them: the marks are in a `SecondaryMap`. It fails only if memory runs out.
 ///
 /// ```
 /// let mut graph: Graph<NodeKey, &str, u64> = Graph::new(alloc)?;

@@ -36,6 +36,7 @@
 #![tactic(auto, using(slotmap::proofs::Callers::keys))]
 
 ghost use Rattle.std.specs.Prelude.{◌≡◌, ℕ, ◌≤◌, Some, IfOk, IfErr, true};
+ghost use Rattle.std.specs.FinMap as map;
 ghost use Rattle.slotmap.specs.Words.{Key as KeyOf, IsBeside, IsLive, contains_key, get};
 ghost use Rattle.slotmap_graph.specs.Search.{Leads};
 ghost use Rattle.slotmap_paths.specs.Costs.{AreTraced, ComesBy, HaveCosts, IsSum, RefusesPaths};
@@ -92,8 +93,8 @@ pub enum PathError {
 ///
 /// A path goes along edges that have a cost in the table. The start itself is at distance 0, by no edge.
 /// If it doesn't exist, no node is found. The call fails with `TooLong` if it comes to a path that costs
-/// more than `u64::MAX`. It fails with `Memory` if memory runs out, or if more nodes wait than a
-/// `Scheduler` holds.
+/// more than `u64::MAX`, and that path has no more edges than there are nodes: small costs never fail.
+/// It fails with `Memory` if memory runs out, or if more nodes wait than a `Scheduler` holds.
 ///
 /// Nodes wait in a `Scheduler`, by their distance. So it takes time logarithmic in their number for each
 /// edge from a node that was found, and time linear in the largest index of such a node: what was found
@@ -152,7 +153,7 @@ pub fn shortest_paths<K: Key, N: Drop, E: Drop>(
     ensures start { IfOk result (λ paths. (x : KeyOf) (r : ReachedOf) → get paths.pairs x ≡ Some r → IsLive graph.now.nodes (K.data_of from)) }
 
     // Why the call failed.
-    ensures err { IfErr result (RefusesPaths graph.now.edges.live costs.now.pairs (K.data_of from)) }
+    ensures err { IfErr result (RefusesPaths graph.now.edges.live costs.now.pairs (map.len graph.now.nodes.live) (K.data_of from)) }
 {
     let mut search = new_search(alloc)?;
     search_from(graph, costs, from, &mut search)?;

@@ -150,7 +150,7 @@ fn follow<K: Key, N: Drop, E: Drop>(
     }
 }
 
-// FollowsEdge the edges of a node that was settled last, at this distance.
+// Follows the edges of a node that was settled last, at this distance.
 fn follow_all<K: Key, N: Drop, E: Drop>(
     graph: &Graph<K, N, E>,
     costs: &Costs,
@@ -163,9 +163,9 @@ fn follow_all<K: Key, N: Drop, E: Drop>(
         → Searching K.data_of graph.now.edges.live costs.now.pairs start search.old.settled.pairs search.old.waiting.waiting (edges_at graph.now.out (K.data_of node))
         → OnOk result (Searching K.data_of graph.now.edges.live costs.now.pairs start search.new.settled.pairs search.new.waiting.waiting []) }
     ensures few { OnOk result (length search.new.waiting.waiting ≤ length search.old.waiting.waiting + length (edges_at graph.now.out (K.data_of node))) }
-    ensures err { (start : KeyOf) → IsLatest search.old.settled.pairs (K.data_of node) distance
+    ensures err { (start : KeyOf) (most : ℕ) → map.len search.old.settled.pairs ≤ most → IsLatest search.old.settled.pairs (K.data_of node) distance
         → Searching K.data_of graph.now.edges.live costs.now.pairs start search.old.settled.pairs search.old.waiting.waiting (edges_at graph.now.out (K.data_of node))
-        → IfErr result (RefusesPaths graph.now.edges.live costs.now.pairs start) }
+        → IfErr result (RefusesPaths graph.now.edges.live costs.now.pairs most start) }
 {
     for edge in graph.edges_from(node) {
         follow(graph, costs, search, distance, edge)?;
@@ -186,7 +186,7 @@ fn visit<K: Key, N: Drop, E: Drop>(
     ensures less { (start : KeyOf) → Visiting K.data_of graph.now costs.now.pairs start search.old.settled.pairs search.old.waiting.waiting distance next
         → OnOk result (to_do graph.now search.new.settled.pairs search.new.waiting.waiting ≤ to_do graph.now search.old.settled.pairs search.old.waiting.waiting) }
     ensures err { (start : KeyOf) → Visiting K.data_of graph.now costs.now.pairs start search.old.settled.pairs search.old.waiting.waiting distance next
-        → IfErr result (RefusesPaths graph.now.edges.live costs.now.pairs start) }
+        → IfErr result (RefusesPaths graph.now.edges.live costs.now.pairs (map.len graph.now.nodes.live) start) }
 {
     let Candidate { node, by } = next;
     if search.settled.contains_key(node) {
@@ -206,7 +206,7 @@ pub(crate) fn search_from<K: Key, N: Drop, E: Drop>(
     requires settled { search.old.settled.pairs ≡ map.empty }
     requires waiting { search.old.waiting.waiting ≡ [] }
     ensures found { OnOk result (FindsPaths graph.now.nodes graph.now.edges.live costs.now.pairs (K.data_of from) search.new.settled.pairs) }
-    ensures err { IfErr result (RefusesPaths graph.now.edges.live costs.now.pairs (K.data_of from)) }
+    ensures err { IfErr result (RefusesPaths graph.now.edges.live costs.now.pairs (map.len graph.now.nodes.live) (K.data_of from)) }
 {
     if !graph.contains_node(from) {
         return Ok(());

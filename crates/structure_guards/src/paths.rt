@@ -2,7 +2,7 @@
 
 ghost use Rattle.std.specs.FinMap as map;
 ghost use Rattle.std.specs.List.{All};
-ghost use Rattle.std.specs.Prelude.{◌≡◌, ℕ, ◌≤◌, ◌^◌, Some, None, IfOk, IfErr, IfSome, IsSome, true, false, if◌then◌else◌, map as list_map};
+ghost use Rattle.std.specs.Prelude.{◌≡◌, ◌≢◌, ℕ, ◌*◌, ◌<◌, ◌≤◌, ◌^◌, Some, None, IfOk, IfErr, IfSome, IsSome, true, false, if◌then◌else◌, map as list_map};
 ghost use Rattle.slotmap.specs.Words.{Key as KeyOf, IsLive, Pairs, contains_key, get};
 ghost use Rattle.slotmap_bounded.specs.KeyLists.{last_or, times};
 ghost use Rattle.slotmap_graph.specs.Search.{Leads};
@@ -55,6 +55,20 @@ pub fn shortest_paths<K: Key, N: Drop, E: Drop>(
     // Holds by `err` of `shortest_paths`.
     ensures too_long_where_a_path_is { IfErr result (λ error. error ≡ TooLong
         → (x : KeyOf) × (sum : ℕ) × IsSum graph.now.edges.live costs.now.pairs (K.data_of from) x sum × (2 ^ 64 ≤ sum)) }
+{
+    slotmap_paths::shortest_paths(alloc, graph, from, costs)
+}
+
+/// Where the greatest cost times the number of nodes fits 64 bits, no path is too long.
+/// Holds by `err` of `shortest_paths`.
+pub fn small_costs_are_never_too_long<K: Key, N: Drop, E: Drop>(
+    alloc: Global,
+    graph: &Graph<K, N, E>,
+    from: K,
+    costs: &Costs,
+) -> Result<Paths<K>, PathError>
+    ensures { (most : ℕ) → ((k : KeyOf) (cost : ℕ) → get costs.now.pairs k ≡ Some cost → cost ≤ most)
+        → map.len graph.now.nodes.live * most < 2 ^ 64 → IfErr result (λ error. error ≢ TooLong) }
 {
     slotmap_paths::shortest_paths(alloc, graph, from, costs)
 }

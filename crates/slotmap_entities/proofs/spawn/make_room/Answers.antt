@@ -1,5 +1,6 @@
 use Rattle.std.proofs.Common.{◌≡◌, ap, ◌∙◌, arith}
-use Rattle.slotmap_entities.proofs.{Spawned.offer_index, TableCount.beside_count}
+use Rattle.slotmap_entities.proofs.Spawned.{offer_index}
+use Rattle.slotmap.proofs.TableLength.{beside_count}
 use Rattle.slotmap_entities.proofs.spawn.make_room.Goals as goal
 
 -- the index and the count aren't too great, so a table with room isn't refused

@@ -1,5 +1,5 @@
 use Rattle.std.proofs.Common.{◌∙◌, refl, sym}
-use Rattle.slotmap_paths.proofs.EdgeSteps.{on_ok, visit_latest, visit_less, visit_searching, visit_skipped}
+use Rattle.slotmap_paths.proofs.EdgeSteps.{on_ok, visit_few, visit_latest, visit_less, visit_searching, visit_skipped}
 use Rattle.slotmap_paths.proofs.search.visit.Goals as goal
 
 pub returns-then-contains_key-clause-searching : goal.returns-then-contains_key-clause-searching
@@ -23,5 +23,6 @@ pub returns-clause-err : goal.returns-clause-err
 returns-clause-err g c start v =
     let unsettled = sym c.contains_key.ensures.value ∙ c.if-contains_key.false in
     let puts = c.in_ok-settle.ensures.settles in
-    c.follow_all.ensures.err start (visit_latest g.K.Key.data_of c.args.graph.now c.args.costs.now.pairs start _ _ _ _ v unsettled _ _ puts refl refl)
+    c.follow_all.ensures.err start _ (visit_few g.K.Key.data_of c.args.graph.now c.args.costs.now.pairs start _ _ _ _ v unsettled _ _ puts refl refl)
+    (visit_latest g.K.Key.data_of c.args.graph.now c.args.costs.now.pairs start _ _ _ _ v unsettled _ _ puts refl refl)
     (rw c.settle.ensures.waiting (visit_searching g.K.Key.data_of c.args.graph.now c.args.costs.now.pairs start _ _ _ _ v unsettled _ _ puts refl refl))
