@@ -57,7 +57,7 @@ pub use slotmap_core::keys::{DefaultKey, Key, KeyData, NodeKey, is_older_version
 pub use slotmap_core::primary::{Detaching, Primary};
 pub use slotmap_core::secondary::{NoEntry, OrPut, Secondary, SecondaryCommand, SecondaryReply};
 pub use slotmap_core::serial::{SlotRecord, check_slots};
-pub use slotmap_core::sure::{drop_may_unwind, rule_out};
+pub use slotmap_core::sure::drop_may_unwind;
 pub use slotmap_dense::DenseSlotMap;
 pub use slotmap_hop::HopSlotMap;
 pub use slotmap_json::{

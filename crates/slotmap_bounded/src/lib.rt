@@ -32,7 +32,8 @@ mod next_after;
 
 pub use keys::{inner, outer};
 use slotmap::basic::{Iter, Keys};
-use slotmap::{Key, ReserveError, SlotMap, rule_out};
+use slotmap::{Key, ReserveError, SlotMap};
+use slotmap_core::sure::rule_out;
 use std::alloc::{AllocError, Global};
 use std::fmt;
 use std::marker::Model;
@@ -47,7 +48,7 @@ const FEW: usize = 4;
 ///
 /// A clause sees the content of the map, where `room` is what was promised. The live, detached and
 /// retired keys and the room together are the bound of the indices. The content's `capacity` is that of
-/// the `SlotMap`: where it stays, no vector has grown.
+/// the `SlotMap`.
 pub struct BoundedMap<K, V> {
     map: SlotMap<K, V>,
     room: usize,

@@ -33,7 +33,7 @@
 //!   the two capacities. So does printing a graph with `{:?}`.
 //!
 //! The calls that make a graph, reserve room, add or copy may fail for memory, and so may those that
-//! take an `alloc`. Those that add need none where there is room, and those that remove need none.
+//! take an `alloc`. Those that add don't fail for it where there is room, and those that remove never do.
 //!
 //! ```
 //! let mut graph: Graph<NodeKey, &str, u64> = Graph::new(alloc)?;
@@ -91,9 +91,10 @@ const MOST: usize = 4_294_967_294;
 ///
 /// A clause sees `nodes` and `edges`. Their `live` is the finite map from the keys to the values, or
 /// to the edges, and `IsSpent` says which keys are never used again. It sees `out` and `into` as well,
-/// by which `edges_at` has the edges of a node in their order. Where a call keeps the `space` of nodes and
-/// edges, and `links`, no vector grows. By the clause `joined` of
-/// [`Graph::node_count`] each edge joins two nodes that exist, and is once in the list of each.
+/// by which `edges_at` has the edges of a node in their order. The `space` of nodes and edges, and `links`,
+/// are how much the graph counts as reserved. A test shows that a call that keeps them asks for none. By
+/// the clause `joined` of [`Graph::node_count`] each edge joins two nodes that exist, and is once in the
+/// list of each.
 pub struct Graph<K, N, E> {
     nodes: BoundedMap<K, N>,
     edges: Edges<E>,

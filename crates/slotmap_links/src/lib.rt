@@ -16,8 +16,8 @@
 //! - [`Links::clear`] takes time linear in [`Links::owners`], and [`Links::clone`] in [`Links::owners`]
 //!   and [`Links::members`].
 //!
-//! Only the two covers and `clone` ask for memory, and only they can fail. A clause sees for how many
-//! owners and members there is memory, and the other calls leave that as it is: no vector grows.
+//! Only the two covers and `clone` can fail. A clause sees for how many owners and members there is
+//! memory, and the other calls leave that as it is. That they ask for no memory is tested, not proved.
 //!
 //! ```
 //! let mut links = Links::new(alloc);
@@ -101,7 +101,7 @@ impl Model for Links {
 }
 
 impl Links {
-    /// Makes lists with no owner and no members. It asks for no memory.
+    /// Makes lists with no owner and no members. It can't fail.
     ///
     /// ```
     /// let links = Links::new(alloc);

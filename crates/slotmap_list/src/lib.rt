@@ -80,8 +80,8 @@ pub use values::{Cursors, Values};
 /// A list whose elements have cursors of the key type `K`.
 ///
 /// A clause sees `elements`, the list of the cursors with their values, from front to back, and
-/// `cursors`, by which it says that a cursor is never used again. `memory` is what the list has memory
-/// for: where a call keeps it, no vector grows.
+/// `cursors`, by which it says that a cursor is never used again. `memory` is how much it counts as
+/// reserved. A test shows that a call that keeps it asks for none.
 pub struct StableList<K, T> {
     // The values, each under the cursor of its element.
     values: BoundedMap<K, T>,

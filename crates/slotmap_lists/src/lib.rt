@@ -80,8 +80,8 @@ const MOST: usize = 4294967294;
 /// Several lists, whose elements have cursors of the key type `K`.
 ///
 /// A clause sees `lists`, for each number the list of the cursors with their values, from front to
-/// back, and `cursors`, by which it says that a cursor is never used again. `memory` is what the lists
-/// have memory for: where a call keeps it, no vector grows.
+/// back, and `cursors`, by which it says that a cursor is never used again. `memory` is how much
+/// they count as reserved. A test shows that a call that keeps it asks for none.
 pub struct StableLists<K, T> {
     // The values, each under the cursor of its element.
     values: BoundedMap<K, T>,

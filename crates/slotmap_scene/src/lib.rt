@@ -19,8 +19,8 @@
 //!
 //! The children of a node are kept as links between siblings, beside the map of the values, by the
 //! indices of their keys. Of the calls that add, move or remove nodes, only those that add one may need
-//! memory. They need none if a slot is vacant or room was reserved. Where there is room, no vector
-//! grows, nor in a move or a removal, and no removal loses room.
+//! memory. They don't fail for it if a slot is vacant or room was reserved. Where there is room, the
+//! capacity stays, and so it does in a move or a removal. No removal loses room.
 //!
 //! A call takes constant time, unless the scene grows, with these exceptions:
 //!
@@ -101,7 +101,8 @@ pub mod world;
 ///
 /// A clause sees `nodes`, a content as of a map of nodes. Its `live` is the finite map from the keys to
 /// the nodes, each with its value, its parent and its children, and `IsSpent` says which keys are never
-/// used again. Where a call keeps the `memory` of a scene, no vector grows.
+/// used again. `memory` is how much the scene counts as reserved. A test shows that a call that keeps it
+/// asks for none.
 pub struct Scene<K, T> {
     alloc: Global,
     nodes: Nodes<T>,
