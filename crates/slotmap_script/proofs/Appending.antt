@@ -1,9 +1,10 @@
 -- One write after another, and lists of texts with a byte between each two.
-use Rattle.std.proofs.Common.{◌≡◌, ◌+◌, ◌<◌, ◌≤◌, ℕ, List, [], ◌∷◌, ◌++◌, Option, Some, None, length, take, map, get_or, append_assoc, ap, sym, ◌∙◌, refl, arith}
-use Rattle.std.specs.Io.KnownBytes.{Appends, Keeps, append_known}
+use Rattle.std.proofs.Common.{◌≡◌, ◌+◌, ◌-◌, ◌<◌, ◌≤◌, ℕ, List, [], ◌∷◌, ◌++◌, Option, Some, None, length, take, drop, map, get_or, append_assoc, ap, sym, ◌∙◌, refl, arith}
+use Rattle.std.specs.Io.KnownBytes.{Appends, Keeps}
+use Rattle.slotmap_script.specs.StopText.{IsBegun}
 use Rattle.std.specs.List.{join_with_byte}
 use Rattle.slotmap_script.proofs.Lines.{append_nil}
-use Rattle.std.proofs.lemmas.List.{map_more, length-take-le, length-map}
+use Rattle.std.proofs.lemmas.List.{map_more, length-take-le, length-map, take-append-drop, take_rest}
 
 -- what two writes append
 pub Appends-trans : (old mid new : Option (List ℕ)) (first second : List ℕ) → Appends old mid first → Appends mid new second → Appends old new (first ++ second)
@@ -24,12 +25,22 @@ Appends-kept (Some xs) None new text h k = absurd h
 Appends-kept (Some xs) (Some ys) None text h k = absurd k
 Appends-kept (Some xs) (Some ys) (Some zs) text h k = k ∙ h
 
--- what was written to a buffered writer with nothing left in its buffer was written to the inner one
-pub Appends-passed_on : (old known : Option (List ℕ)) (buffer text : List ℕ) → Appends old (append_known known buffer) text → buffer ≡ []
-    → Appends old known text
-Appends-passed_on None known buffer text h empty = tt
-Appends-passed_on (Some xs) None buffer text h empty = absurd h
-Appends-passed_on (Some xs) (Some ys) buffer text h empty = sym (append_nil ys) ∙ ap (λ t. ys ++ t) (sym empty) ∙ h
+-- n more bytes of a text are written
+pub moved_front : (all done rest : List ℕ) (n : ℕ) → all ≡ done ++ rest → all ≡ (done ++ take n rest) ++ take (length rest - n) (drop n rest)
+moved_front all done rest n e =
+    e ∙ ap (λ l. done ++ l) (sym (take-append-drop n rest)) ∙ sym (append_assoc done (take n rest) (drop n rest)) ∙ ap (λ l. (done ++ take n rest) ++ l) (sym (take_rest rest n))
+
+-- A beginning of a text: the whole of it, one after what was written before, and one of a longer text
+pub begun_whole : (text : List ℕ) (Printed : List ℕ → Type 0) → Printed text → IsBegun text Printed
+begun_whole text Printed h = (text, [], sym (append_nil text), h)
+
+pub begun_after : (old mid new : Option (List ℕ)) (before text : List ℕ) → Appends old mid before → IsBegun text (Appends mid new)
+    → IsBegun (before ++ text) (Appends old new)
+begun_after old mid new before text h (part, rest, parts, k) =
+    (before ++ part, rest, ap (λ l. before ++ l) parts ∙ sym (append_assoc before part rest), Appends-trans old mid new before part h k)
+
+pub begun_longer : (text more : List ℕ) (Printed : List ℕ → Type 0) → IsBegun text Printed → IsBegun (text ++ more) Printed
+begun_longer text more Printed (part, rest, parts, h) = (part, rest ++ more, ap (λ l. l ++ more) parts ∙ append_assoc part rest more, h)
 
 join_push : (c : ℕ) (xs : List (List ℕ)) (y : List ℕ) → 0 < length xs → join_with_byte c (xs ++ y ∷ []) ≡ join_with_byte c xs ++ (c ∷ y)
 join_push c [] y h = absurd (omega arith)

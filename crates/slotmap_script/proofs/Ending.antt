@@ -1,16 +1,14 @@
 -- Why a script stops, from what its parts say.
-use Rattle.std.proofs.Common.{◌≡◌, ◌<◌, ℕ, List, [], ◌∷◌, ◌++◌, length, get_or, map, Option, Some, None, Result, Ok, Err, OnOk, OnSome, IfErr, string_bytes, String, Global, Bool}
+use Rattle.std.proofs.Common.{◌≡◌, ◌<◌, ℕ, List, [], ◌∷◌, ◌++◌, length, get_or, map, Option, Some, None, Result, Ok, Err, OnOk, IfErr, string_bytes, String, Global, Bool}
 use Rattle.std.proofs.Common.{true, false, ap, subst, ◌∙◌, refl, arith, inl, inr}
 use Rattle.std.specs.{Bool.Decides, Prelude.codes, Prelude.IfSome, Str.bytes_eq}
-use Rattle.std.proofs.lemmas.Option.{none-some}
-use Rattle.std.specs.Option.{unwrap_or}
 use Rattle.std.proofs.lemmas.Slice.Eq.{bytes_eq-Decides}
-use Rattle.std.specs.Io.KnownBytes.{Appends, append_known}
-use Rattle.slotmap_script.specs.{ScriptText.lines_of, ScriptText.StopsParse, StopText.stop_text, StopText.Finishes}
+use Rattle.std.specs.Io.KnownBytes.{Appends}
+use Rattle.slotmap_script.specs.{ScriptText.lines_of, ScriptText.StopsParse, StopText.stop_text, StopText.Finishes, StopText.IsBegun, StopText.Tells}
 use Rattle.slotmap_script.specs.Kinds.{MapKind, AreRead, StopsRun}
-use Rattle.slotmap_script.specs.Ended.{KindName, basic, dense, hop, kind_named, Runs, StopsShort, Refuses, Stops, StopsOn, IsBadLine}
+use Rattle.slotmap_script.specs.Ended.{KindName, basic, dense, hop, kind_named, Runs, Refuses, Stops, StopsOn, IsBadLine, IsPrinted}
 use Rattle.slotmap_script.specs.declared.stop.Stop.{Stop}
-use Rattle.slotmap_script.proofs.Appending.{Appends-none, Appends-trans, Appends-passed_on}
+use Rattle.slotmap_script.proofs.Appending.{Appends-none, Appends-trans, begun_after, begun_longer, begun_whole}
 use Rattle.slotmap_script.proofs.Lines.{append_nil}
 use Rattle.slotmap_script.specs.declared.stop.Stop.TheVariants as stop
 
@@ -48,51 +46,57 @@ module _ {C M : Type 0} (kind : MapKind C M) (known : Option (List ℕ)) (old : 
   stops_parsed script read stop.Usage none = absurd none
   stops_parsed script read stop.Output none = absurd none
 
-same_status : (status other : ℕ) → Some status ≡ Some other → status ≡ other
-same_status status other same = cc
+-- what is printed last is whole, unless the status is 3
+told_whole : (text : List ℕ) (wanted : ℕ) (Printed : List ℕ → Type 0) (status : ℕ) → Tells text wanted Printed status → (status ≡ 3 → ⊥)
+    → (status ≡ wanted) × Printed text
+told_whole text wanted Printed status (inl whole) other = whole
+told_whole text wanted Printed status (inr broken) other = absurd (other broken.0)
 
--- a status below 3 isn't that of a write that failed
-pub status_below : (status : Option ℕ) (n : ℕ) → unwrap_or status 3 ≡ n → n < 3 → status ≡ Some n
-status_below None n is below = absurd (omega arith)
-status_below (Some m) n is below = ap Some is
+-- at each status a beginning of it is printed
+told_begun : (text : List ℕ) (wanted : ℕ) (Printed : List ℕ → Type 0) (status : ℕ) → Tells text wanted Printed status → IsBegun text Printed
+told_begun text wanted Printed status (inl whole) = begun_whole text Printed whole.1
+told_begun text wanted Printed status (inr broken) = broken.1
 
-module _ (words : List (List ℕ)) (known : Option (List ℕ)) (old mid inner : Option (List ℕ)) (buffer : List ℕ) where
+module _ (words : List (List ℕ)) (known : Option (List ℕ)) (old mid new : Option (List ℕ)) where
   bad_line : (kind : KindName) (number : ℕ) → StopsOn kind known (Appends old mid) (stop.BadLine number)
       → (script : List ℕ) × AreRead known script × IsBadLine kind script number × Appends old mid []
   bad_line basic number stops = stops
   bad_line dense number stops = stops
   bad_line hop number stops = stops
 
-  -- what was printed before the last line and with it has all been passed on
-  passed_on : (first last : List ℕ) → Appends old mid first → Appends mid (append_known inner buffer) last → buffer ≡ []
-      → Appends old inner (first ++ last)
-  passed_on first last h k empty = Appends-passed_on old inner buffer (first ++ last) (Appends-trans old mid (append_known inner buffer) first last h k) empty
-
   -- status 0 is that of a whole run
-  pub runs_at_0 : {T : Type 0} (ended : Result T Stop) (result : Option ℕ) → OnOk ended ((text : List ℕ) × Runs words known text × Appends old mid text)
-      → IfSome result (Finishes ended (Appends mid (append_known inner buffer))) → OnSome result (buffer ≡ []) → result ≡ Some 0
-      → (text : List ℕ) × Runs words known text × Appends old inner text
-  runs_at_0 ended None ran ends empty zero = absurd (none-some _ zero)
-  runs_at_0 (Ok done) (Some status) ran ends empty zero =
-      (ran.0, ran.1, subst (λ t. Appends old inner t) (append_nil ran.0) (passed_on ran.0 [] ran.2 ends.1 empty))
-  runs_at_0 (Err stop.Output) (Some status) ran ends empty zero = absurd ends
-  runs_at_0 (Err stop.Usage) (Some status) ran ends empty zero = absurd (omega (arith, ends.0, same_status status 0 zero))
-  runs_at_0 (Err (stop.BadLine number)) (Some status) ran ends empty zero = absurd (omega (arith, ends.0, same_status status 0 zero))
-  runs_at_0 (Err stop.NoScript) (Some status) ran ends empty zero = absurd (omega (arith, ends.0, same_status status 0 zero))
+  pub runs_at_0 : {T : Type 0} (ended : Result T Stop) (status : ℕ) → OnOk ended ((text : List ℕ) × Runs words known text × Appends old mid text)
+      → Finishes ended (Appends mid new) status → status ≡ 0 → (text : List ℕ) × Runs words known text × Appends old new text
+  runs_at_0 (Ok done) status ran ends zero =
+      let whole = told_whole [] 0 _ status ends (λ three. omega (arith, zero, three)) in
+      (ran.0, ran.1, subst (λ t. Appends old new t) (append_nil ran.0) (Appends-trans old mid new ran.0 [] ran.2 whole.1))
+  runs_at_0 (Err stop.Output) status ran ends zero = absurd (omega (arith, ends.0, zero))
+  runs_at_0 (Err stop.Usage) status ran ends zero =
+      absurd (let whole = told_whole _ 2 _ status ends (λ three. omega (arith, zero, three)) in let two = whole.0 in omega (arith, two, zero))
+  runs_at_0 (Err (stop.BadLine number)) status ran (inl ends) zero =
+      absurd (let whole = told_whole _ 2 _ status ends (λ three. omega (arith, zero, three)) in let two = whole.0 in omega (arith, two, zero))
+  runs_at_0 (Err (stop.BadLine number)) status ran (inr ends) zero =
+      absurd (let whole = told_whole _ 3 _ status ends (λ three. omega (arith, zero, three)) in let three = whole.0 in omega (arith, three, zero))
+  runs_at_0 (Err stop.NoScript) status ran ends zero =
+      absurd (let whole = told_whole _ 3 _ status ends (λ three. omega (arith, zero, three)) in let three = whole.0 in omega (arith, three, zero))
 
   -- status 2 is that of a fault of the words or of a line
-  pub refuses_at_2 : {T : Type 0} (ended : Result T Stop) (result : Option ℕ) → IfErr ended (Stops words known (Appends old mid))
-      → IfSome result (Finishes ended (Appends mid (append_known inner buffer))) → OnSome result (buffer ≡ []) → result ≡ Some 2
-      → (text : List ℕ) × Refuses words known text × Appends old inner text
-  refuses_at_2 ended None stops ends empty two = absurd (none-some _ two)
-  refuses_at_2 (Ok done) (Some status) stops ends empty two = absurd (omega (arith, ends.0, same_status status 2 two))
-  refuses_at_2 (Err stop.Output) (Some status) stops ends empty two = absurd ends
-  refuses_at_2 (Err stop.NoScript) (Some status) stops ends empty two = absurd (omega (arith, ends.0, same_status status 2 two))
-  refuses_at_2 (Err stop.Usage) (Some status) stops ends empty two =
-      (stop_text stop.Usage, inl (stops.0, refl), passed_on [] _ stops.1 ends.1 empty)
-  refuses_at_2 (Err (stop.BadLine number)) (Some status) stops ends empty two =
+  pub refuses_at_2 : {T : Type 0} (ended : Result T Stop) (status : ℕ) → IfErr ended (Stops words known (Appends old mid))
+      → Finishes ended (Appends mid new) status → status ≡ 2 → (text : List ℕ) × Refuses words known text × Appends old new text
+  refuses_at_2 (Ok done) status stops ends two =
+      absurd (let whole = told_whole _ 0 _ status ends (λ three. omega (arith, two, three)) in let zero = whole.0 in omega (arith, two, zero))
+  refuses_at_2 (Err stop.Output) status stops ends two = absurd (omega (arith, ends.0, two))
+  refuses_at_2 (Err stop.NoScript) status stops ends two =
+      absurd (let whole = told_whole _ 3 _ status ends (λ three. omega (arith, two, three)) in let three = whole.0 in omega (arith, two, three))
+  refuses_at_2 (Err stop.Usage) status stops ends two =
+      let whole = told_whole _ 2 _ status ends (λ three. omega (arith, two, three)) in
+      (stop_text stop.Usage, inl (stops.0, refl), Appends-trans old mid new [] _ stops.1 whole.1)
+  refuses_at_2 (Err (stop.BadLine number)) status stops (inl ends) two =
+      let whole = told_whole _ 2 _ status ends (λ three. omega (arith, two, three)) in
       let bad = bad_line stops.0 number stops.2 in
-      (stop_text (stop.BadLine number), inr (stops.0, stops.1, (bad.0, number, bad.1, bad.2, refl)), passed_on [] _ bad.3 ends.1 empty)
+      (stop_text (stop.BadLine number), inr (stops.0, stops.1, (bad.0, number, bad.1, bad.2, refl)), Appends-trans old mid new [] _ bad.3 whole.1)
+  refuses_at_2 (Err (stop.BadLine number)) status stops (inr ends) two =
+      absurd (let whole = told_whole _ 3 _ status ends (λ three. omega (arith, two, three)) in let three = whole.0 in omega (arith, two, three))
 
   no_script : (kind : KindName) → StopsOn kind known (Appends old mid) stop.NoScript
       → (before : List ℕ) × StopsOn kind known (λ first. before ++ stop_text stop.NoScript ≡ first ++ stop_text stop.NoScript) stop.NoScript × Appends old mid before
@@ -100,15 +104,42 @@ module _ (words : List (List ℕ)) (known : Option (List ℕ)) (old mid inner : 
   no_script dense stops = (stops.0, (stops.0, stops.1, refl), stops.2)
   no_script hop stops = (stops.0, (stops.0, stops.1, refl), stops.2)
 
-  -- status 3 is that of a script that can't be read, or for which there is no memory
-  pub stops_at_3 : {T : Type 0} (ended : Result T Stop) (result : Option ℕ) → IfErr ended (Stops words known (Appends old mid))
-      → IfSome result (Finishes ended (Appends mid (append_known inner buffer))) → OnSome result (buffer ≡ []) → result ≡ Some 3
-      → (text : List ℕ) × StopsShort words known text × Appends old inner text
-  stops_at_3 ended None stops ends empty three = absurd (none-some _ three)
-  stops_at_3 (Ok done) (Some status) stops ends empty three = absurd (omega (arith, ends.0, same_status status 3 three))
-  stops_at_3 (Err stop.Output) (Some status) stops ends empty three = absurd ends
-  stops_at_3 (Err stop.Usage) (Some status) stops ends empty three = absurd (omega (arith, ends.0, same_status status 3 three))
-  stops_at_3 (Err (stop.BadLine number)) (Some status) stops ends empty three = absurd (omega (arith, ends.0, same_status status 3 three))
-  stops_at_3 (Err stop.NoScript) (Some status) stops ends empty three =
-      let short = no_script stops.0 stops.2 in
-      (short.0 ++ stop_text stop.NoScript, (stops.0, stops.1, short.1), passed_on short.0 _ short.2 ends.1 empty)
+  -- nothing was printed before the line that there was no memory
+  at_once : (kind : KindName) → StopsOn kind known (λ first. stop_text stop.NoScript ≡ first ++ stop_text stop.NoScript) stop.NoScript
+  at_once basic = ([], inl refl, refl)
+  at_once dense = ([], inl refl, refl)
+  at_once hop = ([], inl refl, refl)
+
+  -- a write failed while the replies of the first stretches were written
+  broken : (kind : KindName) → StopsOn kind known (Appends old mid) stop.Output
+      → (text : List ℕ) × StopsOn kind known (λ first. text ++ stop_text stop.NoScript ≡ first ++ stop_text stop.NoScript) stop.NoScript × IsBegun text (Appends old mid)
+  broken basic stops = (stops.0, (stops.0, inr stops.1, refl), stops.2)
+  broken dense stops = (stops.0, (stops.0, inr stops.1, refl), stops.2)
+  broken hop stops = (stops.0, (stops.0, inr stops.1, refl), stops.2)
+
+  -- whatever the status, a beginning of what is printed where no write fails
+  pub begins : {T : Type 0} (ended : Result T Stop) (status : ℕ) → OnOk ended ((text : List ℕ) × Runs words known text × Appends old mid text)
+      → IfErr ended (Stops words known (Appends old mid)) → Finishes ended (Appends mid new) status
+      → (text : List ℕ) × IsPrinted words known text × IsBegun text (Appends old new)
+  begins (Ok done) status ran stops ends =
+      let begun = begun_after old mid new ran.0 [] ran.2 (told_begun [] 0 _ status ends) in
+      (ran.0, inl ran.1, subst (λ t. IsBegun t (Appends old new)) (append_nil ran.0) begun)
+  begins (Err stop.Output) status ran stops ends =
+      let (text, short, begun) = broken stops.0 stops.2 in
+      let (part, rest, parts, appends) = begun in
+      let kept : Appends old new part = subst (λ t. Appends old new t) (append_nil part) (Appends-trans old mid new part [] appends ends.1) in
+      (text ++ stop_text stop.NoScript, inr (inr (stops.0, stops.1, short)), begun_longer text _ _ (part, rest, parts, kept))
+  begins (Err stop.NoScript) status ran stops ends =
+      let (before, short, appends) = no_script stops.0 stops.2 in
+      (before ++ stop_text stop.NoScript, inr (inr (stops.0, stops.1, short)), begun_after old mid new before _ appends (told_begun _ 3 _ status ends))
+  begins (Err stop.Usage) status ran stops ends =
+      (stop_text stop.Usage, inr (inl (inl (stops.0, refl))), begun_after old mid new [] _ stops.1 (told_begun _ 2 _ status ends))
+  begins (Err (stop.BadLine number)) status ran stops (inl ends) =
+      let bad = bad_line stops.0 number stops.2 in (
+        stop_text (stop.BadLine number),
+        inr (inl (inr (stops.0, stops.1, (bad.0, number, bad.1, bad.2, refl)))),
+        begun_after old mid new [] _ bad.3 (told_begun _ 2 _ status ends),
+      )
+  begins (Err (stop.BadLine number)) status ran stops (inr ends) =
+      let bad = bad_line stops.0 number stops.2 in
+      (stop_text stop.NoScript, inr (inr (stops.0, stops.1, at_once stops.0)), begun_after old mid new [] _ bad.3 (told_begun _ 3 _ status ends))

@@ -58,3 +58,7 @@ module _ (words : List (List ℕ)) (known : Option (List ℕ)) where
   -- the text ends with the line that there was no memory for the script, or that it couldn't be read; this is what was printed before
   abbrev pub StopsShort : List ℕ → Type 0
   StopsShort text = Stops (λ before. text ≡ before ++ stop_text stop.NoScript) stop.NoScript
+
+  -- a text that is printed where no write fails: of a run, of a refusal, or of a run that stops before the end
+  abbrev pub IsPrinted : List ℕ → Type 0
+  IsPrinted text = Runs text ⊎ (Refuses text ⊎ StopsShort text)

@@ -1,5 +1,5 @@
 -- The kinds of map, and what a script prints on each.
-use Rattle.std.specs.Prelude.{◌≡◌, ◌⊎◌, ⊤, ℤ, ℕ, List, [], true, false, Option, IfSome}
+use Rattle.std.specs.Prelude.{◌≡◌, ◌⊎◌, ℤ, ℕ, List, [], true, false, Option, IfSome}
 use Rattle.slotmap_core.specs.Words.{Key, Content, IsNew, Step, DetachStep, Writes, ReadsAs, Accepts, RefusesStart, list_limit}
 use Rattle.slotmap_core.specs.declared.commands.Command.{Command}
 use Rattle.slotmap_core.specs.declared.commands.DetachCommand.{DetachCommand}
@@ -11,6 +11,7 @@ use Rattle.slotmap_script.specs.Answered.{Answers}
 use Rattle.slotmap_script.specs.CommandText.{plain_of, detachable_of}
 use Rattle.slotmap_script.specs.ScriptText.{lines_of, Said, SaidBy, IsFirstBad, stretches_from}
 use Rattle.slotmap_script.specs.Printed.{SlotLists, Prints, PrintsFirst}
+use Rattle.slotmap_script.specs.StopText.{IsBegun}
 use Rattle.slotmap_script.specs.declared.stop.Stop.{Stop}
 use Rattle.slotmap_script.specs.declared.stop.Stop.TheVariants as stop
 
@@ -89,11 +90,12 @@ module _ {C M : Type 0} (kind : MapKind C M) where
       × ((new : M) × kind.is_new new × PrintsFirst kind.replies_to kind.lists (stretches_from [] said) new text)
 
   -- Why a run stops, and what it printed: nothing at a bad line, nothing or the first stretches where memory runs out or the script can't be
-  -- read. What a failed write leaves isn't known
+  -- read, and a beginning of the first stretches where a write failed
   abbrev pub StopsRun : Option (List ℕ) → (List ℕ → Type 0) → Stop → Type 0
   StopsRun known Printed (stop.BadLine number) =
       (script : List ℕ) × AreRead known script × IsFirstBad kind.command_of (lines_of script) number × Printed []
   StopsRun known Printed stop.NoScript =
       (text : List ℕ) × ((text ≡ []) ⊎ ((script : List ℕ) × AreRead known script × PrintsSome script text)) × Printed text
-  StopsRun known Printed stop.Output = ⊤
+  StopsRun known Printed stop.Output =
+      (text : List ℕ) × ((script : List ℕ) × AreRead known script × PrintsSome script text) × IsBegun text Printed
   StopsRun known Printed stop.Usage = ⊥

@@ -1,5 +1,5 @@
 -- The text of a list of slots, and of the reasons why a list isn't read.
-use Rattle.std.specs.Prelude.{ℤ, ℕ, List, ◌++◌, codes, map, Option, Some, None}
+use Rattle.std.specs.Prelude.{◌≡◌, ◌⊎◌, ℤ, ℕ, List, ◌++◌, codes, map, Option, Some, None}
 use Rattle.std.specs.Fmt.{decimal, signed_decimal}
 use Rattle.std.specs.List.{join_with_byte}
 use Rattle.slotmap_core.specs.declared.serial.SlotRecord.{SlotRecord}
@@ -30,3 +30,7 @@ refusal_text (load.Slots slots.TooMany) = line (codes "too many")
 refusal_text (load.Slots slots.FirstNotEmpty) = line (codes "first not empty")
 refusal_text (load.Slots (slots.Inconsistent position)) = line (codes "inconsistent " ++ decimal position)
 refusal_text (load.Slots slots.Memory) = line (codes "memory")
+
+-- this text tells why a list isn't read, or that there is no memory for that line
+abbrev pub TellsRefusal : LoadError → List ℕ → Type 0
+TellsRefusal error text = (text ≡ refusal_text error) ⊎ (text ≡ line (codes "memory"))

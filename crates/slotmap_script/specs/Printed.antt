@@ -6,6 +6,7 @@ use Rattle.slotmap_core.specs.declared.commands.Reply.{Reply}
 use Rattle.slotmap_core.specs.declared.errors.OutOfMemory.{OutOfMemory}
 use Rattle.slotmap_core.specs.declared.serial.SlotRecord.{SlotRecord}
 use Rattle.slotmap_script.specs.ReplyText.{line, IsReplyText}
+use Rattle.slotmap_script.specs.StopText.{IsBegun}
 use Rattle.slotmap_script.specs.ListText.{slots_text, refusal_text}
 use Rattle.slotmap_script.specs.ScriptText.{Ending, prints_slots, loads, ends_script}
 use Rattle.slotmap_script.specs.declared.list.LoadError.{LoadError}
@@ -41,10 +42,18 @@ module _ {M : Type 0} (lists : SlotLists M) where
   PrintsEnd (loads json) old text new = Loads old text new
   PrintsEnd ends_script old text new = (new ≡ old) × (text ≡ [])
 
+  -- a write failed at the end of a stretch: a beginning of what that end prints
+  abbrev pub BreaksEnd : Ending → M → (List ℕ → Type 0) → Stop → Type 0
+  BreaksEnd end old Printed why = (why ≡ stop.Output) × ((text : List ℕ) × (new : M) × PrintsEnd end old text new × IsBegun text Printed)
+
 -- the texts of the replies, in order
 abbrev pub PrintsReplies : List (Reply Key ℤ ℤ OutOfMemory) → List ℕ → Type 0
 PrintsReplies [] text = text ≡ []
 PrintsReplies (reply ∷ replies) text = (first rest : List ℕ) × IsReplyText reply first × PrintsReplies replies rest × (text ≡ first ++ rest)
+
+-- the replies to these commands are this text
+abbrev pub RepliesBy : {C M : Type 0} → (M → List C → List (Reply Key ℤ ℤ OutOfMemory) → M → Type 0) → M → List C → List ℕ → M → Type 0
+RepliesBy Answers old commands text new = (replies : List (Reply Key ℤ ℤ OutOfMemory)) × Answers old commands replies new × PrintsReplies replies text
 
 module _ {C M : Type 0} (Answers : M → List C → List (Reply Key ℤ ℤ OutOfMemory) → M → Type 0) (lists : SlotLists M) where
   -- a stretch prints the replies to its commands, and then its end
@@ -64,19 +73,19 @@ module _ {C M : Type 0} (Answers : M → List C → List (Reply Key ℤ ℤ OutO
   Prints (stretch ∷ stretches) old text new =
       (mid : M) × (first rest : List ℕ) × PrintsStretch stretch old first mid × Prints stretches mid rest new × (text ≡ first ++ rest)
 
-  -- the first of these stretches print this text, and there is no memory for the replies of the next
+  -- the first of these stretches print this text
   abbrev pub PrintsFirst : List (List C × Ending) → M → List ℕ → Type 0
   PrintsFirst stretches old text =
       (first rest : List (List C × Ending)) × (last : M) × (stretches ≡ first ++ rest) × Prints first old text last
 
-  -- why the run of these stretches stops, and what it printed; what a failed write leaves isn't known
+  -- why a stretch stops, and what it printed: nothing where there is no memory for its replies, and a beginning where a write failed
+  abbrev pub StopsStretch : List C × Ending → M → (List ℕ → Type 0) → Stop → Type 0
+  StopsStretch stretch old Printed stop.NoScript = Printed []
+  StopsStretch stretch old Printed stop.Output = (text : List ℕ) × (new : M) × PrintsStretch stretch old text new × IsBegun text Printed
+  StopsStretch stretch old Printed _ = ⊥
+
+  -- why the run of these stretches stops, and what it printed: where a write failed, a beginning of what the first of them print
   abbrev pub StopsStretches : List (List C × Ending) → M → (List ℕ → Type 0) → Stop → Type 0
   StopsStretches stretches old Printed stop.NoScript = (text : List ℕ) × PrintsFirst stretches old text × Printed text
-  StopsStretches stretches old Printed stop.Output = ⊤
+  StopsStretches stretches old Printed stop.Output = (text : List ℕ) × PrintsFirst stretches old text × IsBegun text Printed
   StopsStretches stretches old Printed _ = ⊥
-
--- why a stretch stops: there is no memory for its replies, and then this holds; or they can't be written
-abbrev pub StopsStretch : Type 0 → Stop → Type 0
-StopsStretch Unwritten stop.NoScript = Unwritten
-StopsStretch Unwritten stop.Output = ⊤
-StopsStretch Unwritten _ = ⊥

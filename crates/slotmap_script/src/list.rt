@@ -1,15 +1,18 @@
 //! Maps written as the JSON text of their list of slots, and read from it.
 
-ghost use Rattle.std.specs.Prelude.{◌≡◌, ℕ, ℤ, List, Some, option_and_then, OnOk, IfOk, IfErr, ⊤};
+ghost use Rattle.std.specs.Prelude.{◌≡◌, ◌<◌, ◌≤◌, ◌++◌, ◌∷◌, ℕ, ℤ, List, [], Some, option_and_then, OnOk, IfOk, IfErr, ⊤};
 ghost use Rattle.std.specs.Io.KnownBytes.{Appends};
 ghost use Rattle.serde_json.specs.Find.{as_number, as_i64};
 ghost use Rattle.serde_json.specs.View.{view};
 ghost use Rattle.slotmap_core.specs.declared.errors.JsonError.TheVariants.{Shape};
 ghost use Rattle.slotmap_core.specs.declared.serial.SlotRecord.{SlotRecord};
 ghost use Rattle.slotmap_script.specs.Printed.{SlotLists, PrintsSlots, Loads, IsReason};
+ghost use Rattle.slotmap_script.specs.StopText.{IsBegun};
+ghost use Rattle.slotmap_script.specs.declared.stop.Stop.TheVariants.{Output};
 ghost use Rattle.slotmap_script.specs.Kinds.{basic_lists, dense_lists, hop_lists};
-ghost use Rattle.slotmap_script.specs.ListText.{slot_text, slots_text, refusal_text};
+ghost use Rattle.slotmap_script.specs.ListText.{slot_text, slots_text, refusal_text, TellsRefusal};
 
+use crate::stop::{Stop, write_text};
 use serde::{Deserialize, Deserializer, Format};
 use serde_json::Value;
 use slotmap_basic::SlotMap;
@@ -84,30 +87,80 @@ pub enum LoadError {
     Slots(SlotsError),
 }
 
-/// Writes a map's list of slots as a line of compact JSON, record by record, or `memory` if there is no
-/// memory for the list. It fails only if the output can't be written.
-pub fn write_slots<M: Listed, W: Write>(map: &M, output: &mut W) -> io::Result<()>
-    ensures { OnOk result ((text : List ℕ) × PrintsSlots M.lists map.now text
+// A list is printed in pieces of about so many bytes.
+const PIECE: usize = 8192;
+
+// More bytes than a slot takes as text.
+const LONGEST: usize = 64;
+
+/// Prints a map's list of slots as a line of compact JSON, in pieces, or `memory` if there is no memory
+/// for the list. It fails with `Output` if the output can't be written.
+pub fn write_slots<M: Listed, W: Write>(alloc: Global, map: &M, output: &mut W) -> Result<(), Stop>
+    ensures ok { OnOk result ((text : List ℕ) × PrintsSlots M.lists map.now text
         × Appends (W.contents output.old) (W.contents output.new) text) }
+    ensures err { IfErr result (λ why. (why ≡ Output) × ((text : List ℕ) × PrintsSlots M.lists map.now text
+        × IsBegun text (Appends (W.contents output.old) (W.contents output.new)))) }
 {
     let Ok(slots) = map.to_slots() else {
-        return writeln!(output, "memory");
+        return write_text(output, b"memory\n");
     };
-    write_list(output, &slots)
+    let Ok(piece) = Vec::with_capacity(alloc, PIECE + LONGEST) else {
+        return write_text(output, b"memory\n");
+    };
+    write_list(output, &slots, piece)
 }
 
-// Writes a list of slots as a line of compact JSON, record by record.
-fn write_list<W: Write>(output: &mut W, slots: &[SlotRecord<i32>]) -> io::Result<()>
-    ensures { OnOk result (Appends (W.contents output.old) (W.contents output.new) (slots_text slots.now)) }
+// Prints a list of slots as a line of compact JSON. It gathers each piece of the line in `piece`, which
+// is empty and has room for one.
+fn write_list<W: Write>(
+    output: &mut W,
+    slots: &[SlotRecord<i32>],
+    piece: Vec<u8>,
+) -> Result<(), Stop>
+    requires { piece.items ≡ [] }
+    ensures ok { OnOk result (Appends (W.contents output.old) (W.contents output.new) (slots_text slots.now)) }
+    ensures err { IfErr result (λ why. (why ≡ Output)
+        × IsBegun (slots_text slots.now) (Appends (W.contents output.old) (W.contents output.new))) }
 {
-    write!(output, "[")?;
+    let mut piece = piece;
+    let Ok(()) = write!(piece, "[") else {
+        return Err(Stop::Output);
+    };
     for (i, slot) in slots.iter().enumerate() {
-        if i > 0 {
-            write!(output, ",")?;
-        }
-        write_slot(output, slot)?;
+        let Ok(()) = add_slot(&mut piece, i, slot) else {
+            return Err(Stop::Output);
+        };
+        pass_on(output, &mut piece)?;
     }
-    writeln!(output, "]")
+    let Ok(()) = writeln!(piece, "]") else {
+        return Err(Stop::Output);
+    };
+    write_text(output, &piece)
+}
+
+// Adds the slot at a position of a list, after a comma if it isn't the first.
+fn add_slot(piece: &mut Vec<u8>, position: usize, slot: &SlotRecord<i32>) -> io::Result<()>
+    ensures first { OnOk result (position ≤ 0 → piece.new.items ≡ piece.old.items ++ slot_text slot.now) }
+    ensures next { OnOk result (0 < position → piece.new.items ≡ piece.old.items ++ (44 ∷ slot_text slot.now)) }
+{
+    if position > 0 {
+        write!(piece, ",")?;
+    }
+    write_slot(piece, slot)
+}
+
+// Writes a piece that is long enough, and empties it.
+fn pass_on<W: Write>(output: &mut W, piece: &mut Vec<u8>) -> Result<(), Stop>
+    ensures ok { OnOk result ((gone : List ℕ) × Appends (W.contents output.old) (W.contents output.new) gone
+        × (piece.old.items ≡ gone ++ piece.new.items)) }
+    ensures err { IfErr result (λ why. (why ≡ Output)
+        × IsBegun piece.old.items (Appends (W.contents output.old) (W.contents output.new))) }
+{
+    if piece.len() >= PIECE {
+        write_text(output, piece)?;
+        piece.clear();
+    }
+    Ok(())
 }
 
 fn write_slot<W: Write>(output: &mut W, slot: &SlotRecord<i32>) -> io::Result<()>
@@ -120,24 +173,40 @@ fn write_slot<W: Write>(output: &mut W, slot: &SlotRecord<i32>) -> io::Result<()
     }
 }
 
-/// Replaces the map by the one that the text describes, and writes `done`. If no map is read, the old
-/// one stays, and the reason is written. It fails only if the output can't be written; the map may be
-/// the new one then.
+/// Replaces the map by the one that the text describes, and prints `done`. If no map is read, the old
+/// one stays, and the reason is printed, or `memory` if there is no memory for that line. It fails
+/// with `Output` if the output can't be written; the map may be the new one then.
 pub fn load<M: Listed + Drop, W: Write>(
     alloc: Global,
     map: &mut M,
     text: &str,
     output: &mut W,
-) -> io::Result<()>
-    ensures { OnOk result ((text : List ℕ) × Loads M.lists map.old text map.new
+) -> Result<(), Stop>
+    ensures ok { OnOk result ((text : List ℕ) × Loads M.lists map.old text map.new
         × Appends (W.contents output.old) (W.contents output.new) text) }
+    ensures err { IfErr result (λ why. (why ≡ Output) × ((text : List ℕ) × (new : M) × Loads M.lists map.old text new
+        × IsBegun text (Appends (W.contents output.old) (W.contents output.new)))) }
 {
     match read_map(alloc, text) {
         Ok(read) => {
             *map = read;
-            writeln!(output, "done")
+            write_text(output, b"done\n")
         }
-        Err(error) => write_refusal(output, &error),
+        Err(error) => tell_refusal(alloc, output, &error),
+    }
+}
+
+// Prints why a map wasn't read, or `memory` if there is no memory for that line.
+fn tell_refusal<W: Write>(alloc: Global, output: &mut W, error: &LoadError) -> Result<(), Stop>
+    ensures ok { OnOk result ((text : List ℕ) × TellsRefusal error.now text
+        × Appends (W.contents output.old) (W.contents output.new) text) }
+    ensures err { IfErr result (λ why. (why ≡ Output) × ((text : List ℕ) × TellsRefusal error.now text
+        × IsBegun text (Appends (W.contents output.old) (W.contents output.new)))) }
+{
+    let mut text = Vec::new(alloc);
+    match write_refusal(&mut text, error) {
+        Ok(()) => write_text(output, &text),
+        Err(_) => write_text(output, b"memory\n"),
     }
 }
 

@@ -1,22 +1,20 @@
 //! The run of a script, from its words to its status.
 
-ghost use Rattle.std.specs.Prelude.{◌≡◌, ◌⊎◌, ℕ, List, [], Some, None, OnOk, OnSome, IfSome, IfErr, map as list_map, string_bytes};
-ghost use Rattle.std.specs.Io.Buffered.{writer_contents, writer_buffer};
-ghost use Rattle.std.specs.Io.KnownBytes.{Appends, Keeps};
+ghost use Rattle.std.specs.Prelude.{◌≡◌, ◌⊎◌, ◌++◌, ℕ, List, None, OnOk, IfOk, IfSome, IfErr, map as list_map, string_bytes};
+ghost use Rattle.std.specs.Io.KnownBytes.{Appends};
 ghost use Rattle.slotmap_core.specs.Words.{IsNew};
 ghost use Rattle.slotmap_script.specs.ScriptText.{stretch_of, ending_of};
-ghost use Rattle.slotmap_script.specs.Printed.{Prints, PrintsStretch, PrintsEnd, StopsStretches, StopsStretch};
+ghost use Rattle.slotmap_script.specs.Printed.{Prints, PrintsStretch, PrintsEnd, RepliesBy, BreaksEnd, StopsStretch, StopsStretches};
 ghost use Rattle.slotmap_script.specs.Kinds.{kind_of, basic_kind, dense_kind, hop_kind, AreRead, PrintsAll, StopsRun};
-ghost use Rattle.slotmap_script.specs.Ended.{kind_named, Runs, Refuses, Stops, StopsShort};
-ghost use Rattle.slotmap_script.specs.declared.stop.Stop.TheVariants.{Output};
-ghost use Rattle.slotmap_script.specs.StopText.{stop_status, stop_text, Finishes};
+ghost use Rattle.slotmap_script.specs.Ended.{kind_named, Runs, Refuses, Stops, IsPrinted};
+ghost use Rattle.slotmap_script.specs.declared.stop.Stop.TheVariants.{BadLine, Output};
+ghost use Rattle.slotmap_script.specs.StopText.{stop_text, Finishes, IsBegun, Tells};
 
 use crate::commands::{Commands, Detachable, Plain};
-use crate::lent::Lent;
 use crate::list::{Listed, load, write_slots};
 use crate::reply::write_replies;
 use crate::script::{End, Stretch, parse};
-use crate::stop::{Stop, write_stop};
+use crate::stop::{Stop, write_text};
 use slotmap_basic::SlotMap;
 use slotmap_core::keys::DefaultKey;
 use slotmap_core::primary::Primary;
@@ -24,7 +22,7 @@ use slotmap_dense::DenseSlotMap;
 use slotmap_hop::HopSlotMap;
 use std::alloc::Global;
 use std::io;
-use std::io::{BufWriter, Read, Write};
+use std::io::{Read, Write};
 
 /// Runs the script of the input on the kind of map that the words name, prints to the output, and
 /// returns the exit status.
@@ -37,9 +35,9 @@ use std::io::{BufWriter, Read, Write};
 /// - 3 if the script can't be read, memory for the script, the map or the replies runs out, or the
 ///   output can't be written.
 ///
-/// Output is gathered in a buffer of 8,192 bytes. If there is no memory for the buffer, `no script`
-/// is printed, and the status is 3. After a write that failed nothing more is written.
-/// [`run_buffered`] tells such a write from the other causes of status 3.
+/// The replies to the commands up to each `slots` or `load` are printed at once, and so is that to
+/// this line, but a long list in pieces. After a write that failed nothing more is written. Words
+/// that name no kind are refused without memory.
 ///
 /// ```
 /// use slotmap_script::run_script;
@@ -56,101 +54,61 @@ pub fn run_script<R: Read, W: Write>(
     input: &mut R,
     output: &mut W,
 ) -> u8
-    // What was printed, by the status. At 3 a write may have failed; so no clause says what was
-    // printed then.
+    // What was printed, by the status. At 3 a write may have failed. Then it is a beginning of what is
+    // printed where none fails: of a run, of a refusal, or of a run that stops for want of memory.
     ensures statuses { (result ≡ 0) ⊎ (result ≡ 2) ⊎ (result ≡ 3) }
     ensures runs { result ≡ 0 → (text : List ℕ) × Runs (list_map string_bytes words.now) (R.remaining input.old) text
         × Appends (W.contents output.old) (W.contents output.new) text }
     ensures refuses { result ≡ 2 → (text : List ℕ) × Refuses (list_map string_bytes words.now) (R.remaining input.old) text
         × Appends (W.contents output.old) (W.contents output.new) text }
+    ensures stops { result ≡ 3 → (text : List ℕ) × IsPrinted (list_map string_bytes words.now) (R.remaining input.old) text
+        × IsBegun text (Appends (W.contents output.old) (W.contents output.new)) }
 
     // Words that name no kind are refused before the input is read.
     ensures unread { kind_named (list_map string_bytes words.now) ≡ None → input.new ≡ input.old }
 {
-    let Ok(buffered) = BufWriter::new(alloc, Lent { writer: output }) else {
-        return say_no_script(output);
-    };
-    let (status, lent) = run_buffered(alloc, words, input, buffered);
-    let Lent { writer } = lent;
-    // No effect at run time. The proof reads here what the output holds at the end.
-    let _ = &*writer;
-    status.unwrap_or(3)
+    let ended = run_kind(alloc, words, input, output);
+    finish(alloc, ended, output)
 }
 
-// Says that there is no memory, and returns the status.
-fn say_no_script<W: Write>(output: &mut W) -> u8
-    ensures { result ≡ 3 }
-{
-    if write_stop(output, &Stop::NoScript).is_ok() {
-        let _ = output.flush();
-    }
-    3
-}
-
-/// Does what [`run_script`] does with an output that is buffered, and returns the writer behind the
-/// buffer too.
-///
-/// There is no status if the output can't be written; after a write that failed nothing more is
-/// written. At each status all that was printed has left the buffer.
-pub fn run_buffered<R: Read, W: Write + Drop>(
-    alloc: Global,
-    words: &[String],
-    input: &mut R,
-    output: BufWriter<W>,
-) -> (Option<u8>, W)
-    // What was printed, by the status.
-    ensures statuses { IfSome result.0 (λ status. (status ≡ 0) ⊎ (status ≡ 2) ⊎ (status ≡ 3)) }
-    ensures runs { result.0 ≡ Some 0 → (text : List ℕ) × Runs (list_map string_bytes words.now) (R.remaining input.old) text
-        × Appends (writer_contents W.contents output) (W.contents result.1) text }
-    ensures refuses { result.0 ≡ Some 2 → (text : List ℕ) × Refuses (list_map string_bytes words.now) (R.remaining input.old) text
-        × Appends (writer_contents W.contents output) (W.contents result.1) text }
-    ensures stops { result.0 ≡ Some 3 → (text : List ℕ) × StopsShort (list_map string_bytes words.now) (R.remaining input.old) text
-        × Appends (writer_contents W.contents output) (W.contents result.1) text }
-
-    // Words that name no kind are refused before the input is read.
-    ensures unread { kind_named (list_map string_bytes words.now) ≡ None → input.new ≡ input.old }
-{
-    let mut output = output;
-    let ended = run_kind(alloc, words, input, &mut output);
-    let status = finish(ended, &mut output);
-    // What a failed write left unwritten is dropped.
-    let (writer, _unwritten) = output.into_parts();
-    (status, writer)
-}
-
-/// Writes why a script ended early, passes on all that was written, and returns the status, as
-/// [`run_buffered`] has it. It returns `None` if that or an earlier write fails.
-pub fn finish<W: Write + Drop>(ended: Result<(), Stop>, output: &mut BufWriter<W>) -> Option<u8>
-    ensures ends { IfSome result (Finishes ended (Appends (writer_contents W.contents output.old) (writer_contents W.contents output.new))) }
-    ensures passes_on { OnSome result (writer_buffer output.new ≡ []) }
+/// Writes why a script ended early, and returns the status. It is 3 if that or an earlier write
+/// failed, and if there is no memory for the number of a bad line.
+pub fn finish<W: Write>(alloc: Global, ended: Result<(), Stop>, output: &mut W) -> u8
+    ensures ends { Finishes ended (Appends (W.contents output.old) (W.contents output.new)) result }
     ensures silent { IfErr ended (λ why. why ≡ Output → output.new ≡ output.old) }
 {
     match ended {
-        Ok(()) => pass_on(output, 0),
+        Ok(()) => tell(output, b"", 0),
+        Err(Stop::Usage) => tell(output, b"usage: slotrun basic|dense|hop\n", 2),
+        Err(Stop::NoScript) => tell(output, b"no script\n", 3),
+        Err(Stop::BadLine(number)) => match bad_line(alloc, number) {
+            Ok(text) => tell(output, &text, 2),
+            Err(_) => tell(output, b"no script\n", 3),
+        },
         // After a write that failed nothing more is written.
-        Err(Stop::Output) => None,
-        Err(stop) => tell(output, &stop),
+        Err(Stop::Output) => 3,
     }
 }
 
-// Writes why a script ended early, and returns the status, or `None` if it can't be written.
-fn tell<W: Write + Drop>(output: &mut BufWriter<W>, stop: &Stop) -> Option<u8>
-    ensures ends { IfSome result (λ status. (status ≡ stop_status stop.now)
-        × Appends (writer_contents W.contents output.old) (writer_contents W.contents output.new) (stop_text stop.now)) }
-    ensures passes_on { OnSome result (writer_buffer output.new ≡ []) }
+// The line that says which line is bad.
+fn bad_line(alloc: Global, number: usize) -> io::Result<Vec<u8>>
+    ensures { IfOk result (λ text. text.items ≡ stop_text (BadLine number)) }
 {
-    write_stop(output, stop).ok()?;
-    pass_on(output, stop.status())
+    let mut text = Vec::new(alloc);
+    writeln!(text, "bad line {number}")?;
+    Ok(text)
 }
 
-// Returns the status, or `None` if what was written can't be passed on.
-fn pass_on<W: Write + Drop>(output: &mut BufWriter<W>, status: u8) -> Option<u8>
-    ensures ends { IfSome result (λ same. (same ≡ status) × Keeps (writer_contents W.contents output.old) (writer_contents W.contents output.new)) }
-    ensures passes_on { OnSome result (writer_buffer output.new ≡ []) }
+// Writes the last line, and returns the status, or 3 if the output can't be written.
+fn tell<W: Write>(output: &mut W, text: &[u8], status: u8) -> u8
+    ensures { Tells text.now status (Appends (W.contents output.old) (W.contents output.new)) result }
 {
+    if write_text(output, text).is_err() {
+        return 3;
+    }
     match output.flush() {
-        Ok(()) => Some(status),
-        Err(_) => None,
+        Ok(()) => status,
+        Err(_) => 3,
     }
 }
 
@@ -228,9 +186,9 @@ where
     run_stretches(alloc, map, stretches, output)
 }
 
-/// Runs the stretches of a script on a map, one after another, and writes the replies. It stops
-/// with `NoScript` at the first for whose replies there is no memory, and with `Output` if the output
-/// can't be written.
+/// Runs the stretches of a script on a map, one after another, and writes the replies. It stops with
+/// `NoScript` at the first for whose replies there is no memory, and with `Output` if the output can't
+/// be written.
 pub fn run_stretches<M, C, W>(
     alloc: Global,
     map: M,
@@ -254,7 +212,8 @@ where
     Ok(())
 }
 
-// Runs the commands of a stretch, prints the replies, and then prints or reads the list of slots.
+// Runs the commands of a stretch, prints the replies at once, and then prints or reads the list of
+// slots.
 fn print_stretch<M, C, W>(
     alloc: Global,
     map: &mut M,
@@ -268,31 +227,41 @@ where
     ensures ok { OnOk result ((text : List ℕ)
         × PrintsStretch C.replies_to M.lists (stretch_of stretch.entry) map.old text map.new
         × Appends (W.contents output.old) (W.contents output.new) text) }
-    ensures err { IfErr result (StopsStretch (output.new ≡ output.old)) }
+    ensures err { IfErr result (StopsStretch C.replies_to M.lists (stretch_of stretch.entry) map.old
+        (Appends (W.contents output.old) (W.contents output.new))) }
 {
     let Stretch { commands, end } = stretch;
-    let Some(replies) = C::run(alloc, map, commands) else {
+    let Some(text) = reply_text(alloc, map, commands) else {
         return Err(Stop::NoScript);
     };
-    let Ok(()) = write_replies(output, replies) else {
-        return Err(Stop::Output);
-    };
-    match print_end(alloc, map, end, output) {
-        Ok(()) => Ok(()),
-        Err(_) => Err(Stop::Output),
-    }
+    write_text(output, &text)?;
+    print_end(alloc, map, end, output)
+}
+
+// Runs commands, and returns the text of the replies, or `None` if there is no memory for them.
+fn reply_text<M, C>(alloc: Global, map: &mut M, commands: Vec<C>) -> Option<Vec<u8>>
+where
+    M: Listed + Drop,
+    C: Commands<M>,
+    ensures { IfSome result (λ text. RepliesBy C.replies_to map.old commands.items text.items map.new) }
+{
+    let replies = C::run(alloc, map, commands)?;
+    let mut text = Vec::new(alloc);
+    write_replies(&mut text, replies).ok()?;
+    Some(text)
 }
 
 // Prints the list of slots, or reads a map from one.
-fn print_end<M, W>(alloc: Global, map: &mut M, end: End<'_>, output: &mut W) -> io::Result<()>
+fn print_end<M, W>(alloc: Global, map: &mut M, end: End<'_>, output: &mut W) -> Result<(), Stop>
 where
     M: Listed + Drop,
     W: Write,
-    ensures { OnOk result ((text : List ℕ) × PrintsEnd M.lists (ending_of end.entry) map.old text map.new
+    ensures ok { OnOk result ((text : List ℕ) × PrintsEnd M.lists (ending_of end.entry) map.old text map.new
         × Appends (W.contents output.old) (W.contents output.new) text) }
+    ensures err { IfErr result (BreaksEnd M.lists (ending_of end.entry) map.old (Appends (W.contents output.old) (W.contents output.new))) }
 {
     match end {
-        End::Slots => write_slots(map, output),
+        End::Slots => write_slots(alloc, map, output),
         End::Load(text) => load(alloc, map, text, output),
         End::Script => Ok(()),
     }

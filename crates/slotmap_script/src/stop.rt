@@ -1,12 +1,12 @@
-//! Why a script ends before its last reply.
+//! Why a script ends before its last reply, and writes that say what they wrote if they fail.
 
-ghost use Rattle.std.specs.Prelude.{◌≡◌, OnOk};
+ghost use Rattle.std.specs.Prelude.{◌≡◌, IfErr, OnOk};
 ghost use Rattle.std.specs.Io.KnownBytes.{Appends};
-ghost use Rattle.slotmap_script.specs.StopText.{stop_status, stop_text};
+ghost use Rattle.slotmap_script.specs.StopText.{IsBegun};
+ghost use Rattle.slotmap_script.specs.declared.stop.Stop.TheVariants.{Output as OutputStop};
 
 use std::alloc::AllocFailed;
-use std::io;
-use std::io::Write;
+use std::io::{ErrorKind, Write};
 
 /// Why a script ends early.
 #[derive(Drop)]
@@ -21,28 +21,29 @@ pub enum Stop {
     Output,
 }
 
-impl Stop {
-    /// The exit status of a program that ends so.
-    pub fn status(&self) -> u8
-        ensures { result ≡ stop_status self.now }
-    {
-        match self {
-            Stop::Usage | Stop::BadLine(_) => 2,
-            Stop::NoScript | Stop::Output => 3,
+/// Writes a text. It fails with `Output` if the output can't be written; then a beginning of the
+/// text was written.
+pub fn write_text<W: Write>(output: &mut W, text: &[u8]) -> Result<(), Stop>
+    ensures ok { OnOk result (Appends (W.contents output.old) (W.contents output.new) text.now) }
+    ensures err { IfErr result (λ why. (why ≡ OutputStop) × IsBegun text.now (Appends (W.contents output.old) (W.contents output.new))) }
+{
+    let mut rest = text;
+    for _ in 0..u64::MAX {
+        if rest.is_empty() {
+            return Ok(());
+        }
+        match output.write(rest) {
+            Ok(0) => return Err(Stop::Output),
+            Ok(written) => rest = &rest[written..],
+            Err(error) => {
+                // The system may break off a write, and ask for another try.
+                if error.kind() != ErrorKind::Interrupted {
+                    return Err(Stop::Output);
+                }
+            }
         }
     }
-}
-
-/// Writes the line that says why a script ended early. There is none for a write that failed.
-pub fn write_stop<W: Write>(output: &mut W, stop: &Stop) -> io::Result<()>
-    ensures { OnOk result (Appends (W.contents output.old) (W.contents output.new) (stop_text stop.now)) }
-{
-    match stop {
-        Stop::Usage => writeln!(output, "usage: slotrun basic|dense|hop"),
-        Stop::BadLine(number) => writeln!(output, "bad line {number}"),
-        Stop::NoScript => writeln!(output, "no script"),
-        Stop::Output => Ok(()),
-    }
+    Err(Stop::Output)
 }
 
 impl<T: Drop> From<AllocFailed<T>> for Stop {

@@ -4,13 +4,18 @@
 ghost use Rattle.std.specs.Prelude.{◌≡◌, ◌⊎◌};
 
 use slotmap_script::run_script;
+use std::env::{Env, FillError};
 use std::io::{ErrorKind, Write};
 use std::process::ExitCode;
 use std::{env, io};
 
-// The words after the program's name.
+// The words after the program's name. `env::args` asks for memory for the name too, so it isn't
+// called where there are no words.
 fn all_words(rt: &HostRuntime) -> io::Result<Vec<String>> {
     let mut words = Vec::new(rt.alloc());
+    if let Err(FillError::NotPresent) = rt.arg(1, &mut []) {
+        return Ok(words);
+    }
     for word in env::args(rt)?.skip(1) {
         words.push(word)?;
     }

@@ -1,6 +1,6 @@
-use Rattle.std.proofs.Common.{◌≡◌, ◌++◌, Err, sym, ◌∙◌, rules}
+use Rattle.std.proofs.Common.{◌≡◌, ◌++◌, Err, ap, sym, ◌∙◌, rules}
 use Rattle.slotmap_script.proofs.Appending.{Appends-trans}
-use Rattle.slotmap_script.proofs.Printing.{stretch_more_of, stops_after, stops_with, taken_and_left}
+use Rattle.slotmap_script.proofs.Printing.{stretch_more_of, stops_after, taken_and_left}
 use Rattle.std.specs.Vec.Iter.{into_iter_items}
 use Rattle.slotmap_script.proofs.run.run_stretches.Goals as goal
 
@@ -23,12 +23,11 @@ returns-in_err-print_stretch-clause-err g c =
     let before = c.loop-stretch.invariant.2 in
     let why = c.in_err-print_stretch.field-0.0 in
     let refused : c.from_residual.result ≡ Err why = search rules in
-    let parts = taken_and_left c.into_iter-stretch-iterator.result c.loop-stretch.stretch-iterator c.loop-stretch.yielded c.loop-stretch.yielded_by in
+    let taken = taken_and_left c.into_iter-stretch-iterator.result c.loop-stretch.stretch-iterator c.loop-stretch.yielded c.loop-stretch.yielded_by in
     let all = c.into_iter-stretch-iterator.ensures.into_iter_gives.0 in
-    let held = contents c.args.output.now in
-    let held_now = contents c.loop-stretch.output in
-    let stops = stops_with contents c.loop-stretch.output c.print_stretch.new.output why c.in_err-print_stretch.ensures.err in
+    let parts = sym all ∙ taken ∙ ap (λ ss. c.loop-stretch.yielded ++ ss) c.in-Some.ensures.steps.0 in
     rw refused (
-    stops_after g.C.Commands.replies_to g.M.Listed.lists c.args.stretches.items c.loop-stretch.yielded (into_iter_items c.loop-stretch.stretch-iterator)
-    (sym all ∙ parts) c.args.map c.loop-stretch.map before.0 before.1 held held_now (contents c.print_stretch.new.output) before.2 why stops
+    stops_after g.C.Commands.replies_to g.M.Listed.lists c.args.stretches.items c.loop-stretch.yielded (into_iter_items c.next.new.self) c.in-Some.stretch parts
+    c.args.map c.loop-stretch.map before.0 before.1 (contents c.args.output.now) (contents c.loop-stretch.output) (contents c.print_stretch.new.output) before.2 why
+    c.in_err-print_stretch.ensures.err
     )
