@@ -1,1 +1,1 @@
--- Declares nothing.
+mod RunLemmas

@@ -2,7 +2,6 @@
 #![tactic(auto, using(slotmap_core::proofs::ForCallers::Callers::keys))]
 
 pub mod access;
-pub mod blocks;
 pub mod clear;
 pub mod clones;
 pub mod disjoint;

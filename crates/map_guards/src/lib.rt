@@ -10,6 +10,7 @@
 pub mod basic;
 pub mod dense;
 pub mod hop;
+pub mod json;
 pub mod run;
 pub mod secondary;
 pub mod sparse;

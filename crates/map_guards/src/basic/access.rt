@@ -1,19 +1,11 @@
 //! Look-ups and writes.
 
 ghost use Rattle.std.specs.FinMap as map;
-ghost use Rattle.std.specs.Prelude.{◌≡◌, ◌↔◌, Some, None, IfOk, IfErr, OnOk, OnErr, IsOk, IsTrue, option_copied};
+ghost use Rattle.std.specs.Prelude.{◌≡◌, ◌↔◌, Some, None, IfOk, IfErr, OnOk, IsOk, IsTrue};
 ghost use Rattle.slotmap_core.specs.Words.{IsLive};
 
 use slotmap_basic::SlotMap;
 use slotmap_core::keys::Key;
-
-/// A live key has its value, and no other key has one.
-/// Refuses `get_looks_up_the_null_key`: `value` of `get`.
-pub fn get_finds_the_value<K: Key, V: Drop>(store: &SlotMap<K, V>, key: K) -> Option<&V>
-    ensures { option_copied result ≡ map.get store.now.live (K.data_of key) }
-{
-    store.get(key)
-}
 
 /// It is true of the live keys alone.
 /// Refuses `contains_key_answers_whether_any_is_live`: `value` of `contains_key`.
@@ -21,15 +13,6 @@ pub fn contains_key_tells_live_keys<K: Key, V: Drop>(store: &SlotMap<K, V>, key:
     ensures { IsTrue result ↔ IsLive store.now (K.data_of key) }
 {
     store.contains_key(key)
-}
-
-/// A live key's value is read.
-/// Refuses `get_unchecked_reads_another_key`: the premise and `value` of `get_unchecked`.
-pub fn get_unchecked_reads_the_value<K: Key, V: Drop>(store: &SlotMap<K, V>, key: K) -> &V
-    requires { IsLive store.now (K.data_of key) }
-    ensures { map.get store.now.live (K.data_of key) ≡ Some result.now }
-{
-    store.get_unchecked(key)
 }
 
 /// A live key's value is read.
@@ -77,27 +60,6 @@ pub fn index_mut_lends_the_value<K: Key, V: Drop>(store: &mut SlotMap<K, V>, key
     store[key] = value;
 }
 
-/// The value that the key has is lent.
-/// Holds by the premise and `value` of `get_unchecked_mut`.
-pub fn get_unchecked_mut_shows_the_value<K: Key, V: Drop>(
-    store: &mut SlotMap<K, V>,
-    key: K,
-) -> &mut V
-    requires { IsLive store.old (K.data_of key) }
-    ensures { map.get store.old.live (K.data_of key) ≡ Some result.now }
-{
-    store.get_unchecked_mut(key)
-}
-
-/// The value that the key has is lent.
-/// Holds by the premise and `value` of `index_mut`.
-pub fn index_mut_shows_the_value<K: Key, V: Drop>(store: &mut SlotMap<K, V>, key: K) -> &mut V
-    requires { IsLive store.old (K.data_of key) }
-    ensures { map.get store.old.live (K.data_of key) ≡ Some result.now }
-{
-    &mut store[key]
-}
-
 /// Guards of `replace`.
 pub fn replace<K: Key, V: Drop>(store: &mut SlotMap<K, V>, key: K, value: V) -> Result<V, V>
     // A live key has the new value, and its old one is returned. Every other key has its own.
@@ -105,9 +67,8 @@ pub fn replace<K: Key, V: Drop>(store: &mut SlotMap<K, V>, key: K, value: V) -> 
     ensures replace_exchanges_the_value_succeeds { IsLive store.old (K.data_of key) → IsOk result }
     ensures replace_exchanges_the_value_old { IsLive store.old (K.data_of key) → IfOk result (λ before. map.get store.old.live (K.data_of key) ≡ Some before) }
     ensures replace_exchanges_the_value_new { IsLive store.old (K.data_of key) → OnOk result (store.new.live ≡ map.insert store.old.live (K.data_of key) value) }
-    // Where it fails, nothing changes, and the new value comes back.
-    // Holds by `err` and `unchanged` of `replace`.
-    ensures failed_replace_changes_nothing_unchanged { OnErr result (store.new ≡ store.old) }
+    // Where it fails, the new value comes back.
+    // Holds by `err` of `replace`.
     ensures failed_replace_changes_nothing_back { IfErr result (λ back. back ≡ value) }
 {
     store.replace(key, value)

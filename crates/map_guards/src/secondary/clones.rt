@@ -1,6 +1,6 @@
 //! Copies.
 
-ghost use Rattle.std.specs.Prelude.{◌≡◌, ◌↔◌, IfOk, OnOk, OnErr, IsTrue};
+ghost use Rattle.std.specs.Prelude.{◌≡◌, ◌↔◌, IfOk, OnOk, IsTrue};
 ghost use Rattle.slotmap_core.specs.Words.{Key as KeyOf, IsCloneOf, ClonesEqual, get, AreEqual};
 
 use slotmap_core::keys::Key;
@@ -15,9 +15,6 @@ pub fn clone<K: Key, V: Clone>(table: &SecondaryMap<K, V>) -> Result<SecondaryMa
     // Where clones equal their values, the copy holds what the map holds.
     // Holds by `copies_if_clones_equal` of `clone`.
     ensures copy_equals_the_map { ClonesEqual V.is_clone → IfOk result (λ copy. copy.pairs ≡ table.now.pairs) }
-    // A copy has as many slots.
-    // Holds by `places` of `clone`.
-    ensures copy_has_as_many_slots { IfOk result (λ copy. copy.places ≡ table.now.places) }
 {
     table.clone()
 }
@@ -40,12 +37,6 @@ pub fn clone_from<K: Key, V: Clone + Drop>(
     // The map has the keys of the other, each with a clone of its value.
     // Refuses `clone_from_drops_the_copy`: `clones` of `clone_from`.
     ensures clone_from_has_a_clone_of_each_value { OnOk result ((key : KeyOf) → IsCloneOf V.is_clone (get source.now.pairs key) (get table.new.pairs key)) }
-    // Where it fails, the map is as it was.
-    // Holds by `unchanged` of `clone_from`.
-    ensures failed_clone_from_changes_nothing { OnErr result (table.new ≡ table.old) }
-    // It has as many slots as the other.
-    // Holds by `places` of `clone_from`.
-    ensures clone_from_has_as_many_slots { OnOk result (table.new.places ≡ source.now.places) }
     // Where clones equal their values, the map holds what the other holds.
     // Holds by `copies_if_clones_equal` of `clone_from`.
     ensures clone_from_equals_the_other { OnOk result (ClonesEqual V.is_clone → table.new.pairs ≡ source.now.pairs) }

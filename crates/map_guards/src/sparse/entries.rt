@@ -1,7 +1,7 @@
 //! Entries of a key.
 
 ghost use Rattle.std.specs.FinMap as map;
-ghost use Rattle.std.specs.Prelude.{◌≡◌, ◌<◌, ◌≤◌, ◌↔◌, Some, None, IfOk, IfErr, OnSome, IfSome, IsOk, IsSome, IsTrue, true, false};
+ghost use Rattle.std.specs.Prelude.{◌≡◌, ◌<◌, ◌≤◌, ◌↔◌, Some, None, IfOk, OnSome, IfSome, IsOk, IsSome, IsTrue, true, false};
 ghost use Rattle.slotmap_core.specs.Words.{MutBor, get, contains_key, entry, bind, remove, is_null, no_entry, occupied};
 ghost use Rattle.slotmap_sparse.specs.Content.{room};
 ghost use Rattle.slotmap_sparse.specs.Entry.{IsSparseInPlace, IsWritten, entry_without, sparse_entry_key, sparse_entry_value};
@@ -362,17 +362,4 @@ pub fn vacant_entry_puts_under_its_key<K: Key, V: Drop>(
             *place = last;
         }
     }
-}
-
-/// The new value is lent, or comes back.
-/// Holds by `value` and `err` of `insert` of `VacantEntry`.
-pub fn vacant_entry_lends_the_new_value<'a, K: Key, V: Drop>(
-    found: VacantEntry<'a, K, V>,
-    value: V,
-) -> Result<&'a mut V, PutError<V>>
-    requires { IsSparseInPlace K.data_of (Entry.Vacant found) }
-    ensures lent { IfOk result (λ place. place.now ≡ value) }
-    ensures back { IfErr result (λ error. error.0 ≡ value) }
-{
-    found.insert(value)
 }

@@ -1,25 +1,19 @@
 //! Iterators over the keys and values.
 
 ghost use Rattle.std.specs.Prelude.{◌≡◌, ◌∷◌, [], Some, IfOk, IfSome, IfNone, IsOk, length};
-ghost use Rattle.slotmap_core.specs.Words.{IsListing, IsKeyListing, IsValueListing, keyed};
+ghost use Rattle.slotmap_core.specs.Words.{IsListing, IsValueListing, keyed};
 
 use slotmap_core::keys::Key;
 use slotmap_sparse::{IntoIter, Iter, Keys, SparseSecondaryMap, Values};
 use std::alloc::AllocError;
 
-/// Each key is yielded once with its value.
-/// Holds by `listing` of `iter`.
-pub fn iter_lists_each_once<K: Key, V>(table: &SparseSecondaryMap<K, V>) -> Iter<'_, K, V>
-    ensures listing { IsListing (keyed table.now.pairs) result }
-{
-    table.iter()
-}
-
-/// The first item that is left is yielded, and then the others are left.
+/// The first item that is left is yielded, and then the others are left. After its end
+/// it yields nothing.
 /// Refuses `iter_gives_another_version`: `next_gives` of `Iter`.
 pub fn iter_yields_its_first_item<'a, K: Key, V>(items: &mut Iter<'a, K, V>) -> Option<(K, &'a V)>
     ensures some { IfSome result (λ item. items.old ≡ (K.data_of item.0, item.1.now) ∷ items.new) }
     ensures none { IfNone result (items.old ≡ []) }
+    ensures stays_at_end { IfNone result (items.new ≡ []) }
 {
     items.next()
 }
@@ -46,19 +40,13 @@ pub fn copied_iter_yields_the_same<'a, K: Key, V>(
     items.clone()
 }
 
-/// Each key is yielded once.
-/// Holds by `listing` of `keys`.
-pub fn keys_lists_each_once<K: Key, V>(table: &SparseSecondaryMap<K, V>) -> Keys<'_, K, V>
-    ensures listing { IsKeyListing (keyed table.now.pairs) result }
-{
-    table.keys()
-}
-
-/// The first item that is left is yielded, and then the others are left.
+/// The first item that is left is yielded, and then the others are left. After its end
+/// it yields nothing.
 /// Holds by `next_gives` of `Keys`.
 pub fn keys_yields_its_first_item<'a, K: Key, V>(items: &mut Keys<'a, K, V>) -> Option<K>
     ensures some { IfSome result (λ item. items.old ≡ K.data_of item ∷ items.new) }
     ensures none { IfNone result (items.old ≡ []) }
+    ensures stays_at_end { IfNone result (items.new ≡ []) }
 {
     items.next()
 }
@@ -93,11 +81,13 @@ pub fn values_lists_each_once<K: Key, V>(table: &SparseSecondaryMap<K, V>) -> Va
     table.values()
 }
 
-/// The first item that is left is yielded, and then the others are left.
+/// The first item that is left is yielded, and then the others are left. After its end
+/// it yields nothing.
 /// Holds by `next_gives` of `Values`.
 pub fn values_yields_its_first_item<'a, K: Key, V>(items: &mut Values<'a, K, V>) -> Option<&'a V>
     ensures some { IfSome result (λ item. items.old ≡ item.now ∷ items.new) }
     ensures none { IfNone result (items.old ≡ []) }
+    ensures stays_at_end { IfNone result (items.new ≡ []) }
 {
     items.next()
 }
@@ -143,12 +133,4 @@ pub fn owned_iterator_lists_each_pair<K: Key, V: Drop>(
     ensures { IsListing (keyed table.pairs) result }
 {
     table.into_iter()
-}
-
-/// It is the number of pairs that are left.
-/// Holds by `len` of `IntoIter`.
-pub fn owned_iterator_knows_how_many_are_left<K: Key, V: Drop>(pairs: &IntoIter<K, V>) -> usize
-    ensures { result ≡ length pairs.now }
-{
-    pairs.len()
 }

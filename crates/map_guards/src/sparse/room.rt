@@ -1,7 +1,7 @@
 //! How many keys there are, and room for more.
 
 ghost use Rattle.std.specs.FinMap as map;
-ghost use Rattle.std.specs.Prelude.{◌≡◌, ◌+◌, ◌<◌, ◌≤◌, ◌↔◌, None, IfOk, OnOk, IsOk, IsTrue, Err};
+ghost use Rattle.std.specs.Prelude.{◌≡◌, ◌+◌, ◌<◌, ◌≤◌, None, IfOk, OnOk, IsOk, Err};
 ghost use Rattle.slotmap_core.specs.Words.{Key as KeyOf, get};
 ghost use Rattle.slotmap_sparse.specs.Content.{most_keys};
 
@@ -11,14 +11,12 @@ use slotmap_sparse::SparseSecondaryMap;
 use std::alloc::Global;
 use std::hash::BuildHasher;
 
-/// Guards of `new`.
-pub fn new<K: Key, V: Drop>(alloc: Global) -> Result<SparseSecondaryMap<K, V>, ReserveError>
-    // No key is in it.
-    // Holds by `empty` of `new`.
-    ensures new_makes_an_empty_map { IfOk result (λ made. (key : KeyOf) → get made.pairs key ≡ None) }
-    // It can't fail.
-    // Holds by `ok` of `new`.
-    ensures new_succeeds { IsOk result }
+/// No key is in it.
+/// Holds by `empty` of `new`.
+pub fn new_makes_an_empty_map<K: Key, V: Drop>(
+    alloc: Global,
+) -> Result<SparseSecondaryMap<K, V>, ReserveError>
+    ensures { IfOk result (λ made. (key : KeyOf) → get made.pairs key ≡ None) }
 {
     SparseSecondaryMap::new(alloc)
 }
@@ -28,9 +26,8 @@ pub fn with_capacity<K: Key, V: Drop>(
     alloc: Global,
     capacity: usize,
 ) -> Result<SparseSecondaryMap<K, V>, ReserveError>
-    // There is memory for so many, and no key is in the map.
-    // Refuses `with_capacity_asks_for_no_memory`: `capacity` and `empty` of `with_capacity`.
-    ensures with_capacity_makes_room_capacity { IfOk result (λ made. capacity ≤ made.capacity) }
+    // No key is in the map.
+    // Holds by `empty` of `with_capacity`.
     ensures with_capacity_makes_room_empty { IfOk result (λ made. (key : KeyOf) → get made.pairs key ≡ None) }
     // It fails with `TooGreat` exactly above the limit.
     // Holds by `err` and `fits` of `with_capacity`.
@@ -41,17 +38,13 @@ pub fn with_capacity<K: Key, V: Drop>(
     SparseSecondaryMap::with_capacity(alloc, capacity)
 }
 
-/// Guards of `with_hasher`.
-pub fn with_hasher<K: Key, V: Drop, S: BuildHasher + Drop>(
+/// No key is in it.
+/// Holds by `empty` of `with_hasher`.
+pub fn with_hasher_makes_an_empty_map<K: Key, V: Drop, S: BuildHasher + Drop>(
     alloc: Global,
     hash_builder: S,
 ) -> Result<SparseSecondaryMap<K, V, S>, ReserveError>
-    // No key is in it.
-    // Holds by `empty` of `with_hasher`.
-    ensures with_hasher_makes_an_empty_map { IfOk result (λ made. (key : KeyOf) → get made.pairs key ≡ None) }
-    // It can't fail.
-    // Holds by `ok` of `with_hasher`.
-    ensures with_hasher_succeeds { IsOk result }
+    ensures { IfOk result (λ made. (key : KeyOf) → get made.pairs key ≡ None) }
 {
     SparseSecondaryMap::with_hasher(alloc, hash_builder)
 }
@@ -62,9 +55,8 @@ pub fn with_capacity_and_hasher<K: Key, V: Drop, S: BuildHasher + Drop>(
     capacity: usize,
     hash_builder: S,
 ) -> Result<SparseSecondaryMap<K, V, S>, ReserveError>
-    // There is memory for so many, and no key is in the map.
-    // Holds by `capacity` and `empty` of `with_capacity_and_hasher`.
-    ensures with_capacity_and_hasher_makes_room_capacity { IfOk result (λ made. capacity ≤ made.capacity) }
+    // No key is in the map.
+    // Holds by `empty` of `with_capacity_and_hasher`.
     ensures with_capacity_and_hasher_makes_room_empty { IfOk result (λ made. (key : KeyOf) → get made.pairs key ≡ None) }
     // It fails with `TooGreat` exactly above the limit.
     // Holds by `err` and `fits` of `with_capacity_and_hasher`.
@@ -73,31 +65,6 @@ pub fn with_capacity_and_hasher<K: Key, V: Drop, S: BuildHasher + Drop>(
     ensures with_capacity_and_hasher_is_too_great_above_the_limit_alone_memory { result ≡ Err ReserveError.Memory → capacity ≤ most_keys }
 {
     SparseSecondaryMap::with_capacity_and_hasher(alloc, capacity, hash_builder)
-}
-
-/// It is the number of keys.
-/// Holds by `value` of `len`.
-pub fn len_counts_the_keys<K: Key, V: Drop>(table: &SparseSecondaryMap<K, V>) -> usize
-    ensures { result ≡ map.len table.now.pairs }
-{
-    table.len()
-}
-
-/// It is true exactly where the map has no key.
-/// Refuses `is_empty_looks_for_one_key`: `value` of `is_empty`.
-pub fn is_empty_with_no_key<K: Key, V: Drop>(table: &SparseSecondaryMap<K, V>) -> bool
-    ensures { IsTrue result ↔ (map.len table.now.pairs ≡ 0) }
-{
-    table.is_empty()
-}
-
-/// The keys fit.
-/// Holds by `value` and `fits` of `capacity`.
-pub fn capacity_counts_keys<K: Key, V: Drop>(table: &SparseSecondaryMap<K, V>) -> usize
-    ensures value { result ≡ table.now.capacity }
-    ensures fits { map.len table.now.pairs ≤ result }
-{
-    table.capacity()
 }
 
 /// Guards of `reserve`.
