@@ -5,7 +5,9 @@
 #
 # - the generated files are those of the sources, and the script that writes them refuses what it has to refuse;
 # - the library under the package rust/check: the project's programs print what the proved ones print; random calls beside models;
-#   refused and counted memory; a panic at each moment of each call; premises that nobody proves in Rust;
+#   refused memory; a panic at each moment of each call; premises that nobody proves in Rust; names, keys, messages, debug texts, JSON,
+#   and scripts on streams that fail;
+# - what each public call asks the allocator for: nothing within its room, or what its row says; and that no call is without a row;
 # - a program without std, over the crate without its feature `std`: it has a panic handler of its own, so it wouldn't build over std;
 # - the examples of the documentation, as one program, and the documentation itself, without a warning;
 # - the example of the pages.
@@ -18,6 +20,7 @@ command -v cargo >/dev/null || { echo "rust/test.sh: it needs cargo, of Rust 1.8
 python3 erase.py --check
 python3 eraser/test.py
 (cd check && cargo test --offline --quiet)
+(cd check && python3 room.py --check)
 (cd check/examples && cargo test --offline --quiet --doc)
 (cd check/no_std && cargo run --offline --quiet)
 (cd check && RUSTDOCFLAGS="-D warnings" cargo doc --offline --quiet --no-deps --lib)

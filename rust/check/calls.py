@@ -10,7 +10,7 @@ traits below, and the functions. The steps of iterators aren't listed; they are 
 A test calls what its text names. In a test file each name of a variable stands for the types that FILES gives it, so `map.get(`
 is a call of each of these types that has a `get`: a macro makes the test for each. `map.as_mut().get(` is one of the proved map
 inside. Operators count as the call of their trait: `map[` as `index`, `==` as `eq`, `{:?}` as `fmt`. Nothing is run for it: what the
-tests then assert, they say themselves.
+tests then assert, they say themselves. The kind `counted` is taken from the test `room` itself, which prints the names of its rows.
 """
 import json
 import os
@@ -75,8 +75,6 @@ FILES = [
     ("refused", "memory/refused_maps.rs", MAPS),
     ("refused", "memory/refused_runs.rs", {}),
     ("refused", "memory/refused_structures.rs", {**OF_STRUCTURES, "parts": ["scene::Scene"]}),
-    ("counted", "memory/counted_maps.rs", MAPS),
-    ("counted", "memory/counted_structures.rs", {**OF_STRUCTURES, "taken": ["list::StableList"]}),
     ("requires", "requires.rs", {"map": PRIMARY + SIDE, "$map": PROVED, "dense": PROVED_PRIMARY[1:2], "structure": STRUCTURES}),
     ("panics", "panics.rs", MAPS),
     ("panics", "panics_structures.rs", {**OF_STRUCTURES, "lists": ["list::StableList", "lists::StableLists"]}),
@@ -96,6 +94,13 @@ def documented():
                               capture_output=True)
     folder = pathlib.Path(json.loads(metadata.stdout)["target_directory"])
     return json.loads((folder / "doc" / "slotmap_proved.json").read_text())
+
+
+def rows():
+    """The names of the calls whose requests for memory the test `room` counts, and what each may ask for."""
+    command = ["cargo", "test", "--offline", "--quiet", "--test", "room", "names", "--", "--exact", "--nocapture"]
+    printed = subprocess.run(command, cwd=HERE, check=True, capture_output=True, text=True).stdout
+    return [line.split(" ", 2)[1:] for line in printed.splitlines() if line.startswith("row ")]
 
 
 class Crate:
@@ -128,14 +133,14 @@ class Crate:
         elif kind is not None:
             self.found["::".join(path + [use["name"]])] = use["id"]
 
-    def calls(self, path):
-        """The names of the calls of a type."""
+    def calls(self, path, traits=TRAITS):
+        """The names of the calls of a type, of its own and of some traits."""
         _, _, inner = self.item(self.found[path])
         names = set()
         for number in inner["impls"]:
             block = self.item(number)[2]
             trait = block["trait"]
-            if block["is_synthetic"] or block["blanket_impl"] or trait and trait["path"].split("::")[-1] not in TRAITS:
+            if block["is_synthetic"] or block["blanket_impl"] or trait and trait["path"].split("::")[-1] not in traits:
                 continue
             members = [self.item(member) for member in block["items"]]
             names |= {name for name, kind, _ in members if kind == "function"}
@@ -171,6 +176,9 @@ def named(text, name, call):
 def tested(types, functions):
     """For each call the kinds of tests that call it."""
     found = {}
+    for name, _ in rows():
+        type_, _, call = name.rpartition("::")
+        found.setdefault((type_, call) if type_ in types else ("", name), set()).add("counted")
     for kind, file, names in FILES:
         path = TESTS / file
         files = sorted(path.rglob("*.rs")) if path.is_dir() else [path]

@@ -24,9 +24,9 @@ DIFFERENT = {
 # The names of std that src/rt has, each with the meaning that Rattle's has.
 STD = {
     "alloc": {"AllocError", "AllocFailed", "Global"}, "cell": {"Cell"}, "collections": {"HashMap", "VecDeque", "hash_map", "RandomState"},
-    "env": {"", "Env"}, "fmt": {"", "Display"}, "fs": {"", "Files"},
+    "env": {"", "Env", "FillError"}, "fmt": {"", "Display"}, "fs": {"", "Files"},
     "hash": {"BuildHasher", "BuildHasherDefault", "FoldHasher", "Hash", "Hasher"},
-    "io": {"", "BufWriter", "ErrorKind", "Read", "Write"}, "iter": {"FusedIterator"}, "marker": {"Model", "PhantomData"}, "mem": {""},
+    "io": {"", "ErrorKind", "Read", "Write"}, "iter": {"FusedIterator"}, "marker": {"Model", "PhantomData"}, "mem": {""},
     "ops": {"Index", "IndexMut"}, "process": {"ExitCode"}, "simd": {"prelude"}, "slice": {""}, "vec": {""},
 }
 

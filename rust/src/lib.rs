@@ -83,6 +83,8 @@ mod lent;
 mod maps;
 mod sealed;
 pub mod words;
+#[cfg(all(test, feature = "structures"))]
+mod parts_of_structures;
 #[cfg(feature = "serde")]
 mod serialize;
 

@@ -11,6 +11,7 @@ pub mod cursors;
 pub mod cuts;
 pub mod cycles;
 pub mod dirty;
+pub mod floats;
 pub mod forward;
 pub mod fuses;
 pub mod groups;

@@ -1,10 +1,6 @@
-//! Memory: what a call does when it is refused, and that a call within its room asks for none.
+//! Memory: what a call does when it is refused. That a call within its room asks for none is the test `room`.
 
 mod common;
-#[path = "memory/counted_maps.rs"]
-mod counted_maps;
-#[path = "memory/counted_structures.rs"]
-mod counted_structures;
 #[path = "memory/refused.rs"]
 mod refused;
 #[path = "memory/refused_maps.rs"]

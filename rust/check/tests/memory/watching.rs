@@ -1,4 +1,5 @@
 //! An allocator that counts the requests of each thread, and refuses one of them.
+#![allow(dead_code)] // One test counts, the other one refuses.
 
 use std::alloc::{GlobalAlloc, Layout, System};
 use std::cell::Cell;
@@ -53,15 +54,3 @@ pub fn refusing<T>(number: u64, call: impl FnOnce() -> T) -> (T, bool) {
 pub fn count() -> u64 {
     REQUESTS.with(Cell::get)
 }
-
-/// Evaluates a call that asks for no memory, or panics.
-macro_rules! free {
-    ($call:expr) => {{
-        let before = $crate::watching::count();
-        let result = $call;
-        let asked = $crate::watching::count() - before;
-        assert_eq!(asked, 0, "{} asks for memory", stringify!($call));
-        result
-    }};
-}
-pub(crate) use free;

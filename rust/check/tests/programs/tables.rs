@@ -1,228 +1,359 @@
-//! The scripts with their replies that `crates/slotmap_tests` holds the proved program to. They are read from its source.
+//! Scripts with their replies. They were worked out by hand from the rules of docs/SLOTRUN.md, or come from the crate slotmap.
 
-use super::{assert_same, crates, read, run};
+/// A line of a script, and its reply.
+pub type Line = (&'static str, &'static str);
 
-/// What a table is made of.
-#[derive(Debug, PartialEq)]
-enum Token {
-    Open(char),
-    Close,
-    Text(Vec<u8>),
-    Number(usize),
-}
+/// Scripts for a `SlotMap`.
+pub const SCRIPTS: [&[Line]; 14] = [
+    &[],
+    // A look-up leaves the value; a removal and a detach take it.
+    &[
+        ("insert 5", "key 4294967297"),
+        ("get 4294967297", "value 5"),
+        ("get 4294967297", "value 5"),
+        ("remove 4294967297", "value 5"),
+        ("get 4294967297", "none"),
+        ("remove 4294967297", "none"),
+        ("detach 4294967297", "none"),
+        ("len", "len 0"),
+    ],
+    &[
+        ("insert 5", "key 4294967297"),
+        ("detach 4294967297", "value 5"),
+        ("insert 6", "key 4294967298"),
+        ("reattach 4294967297 9", "done"),
+        ("reattach 4294967297 8", "not detached"),
+        ("get 4294967297", "value 9"),
+    ],
+    // A clear leaves detached keys detached.
+    &[
+        ("insert 1", "key 4294967297"),
+        ("insert 2", "key 4294967298"),
+        ("detach 4294967297", "value 1"),
+        ("clear", "done"),
+        ("len", "len 0"),
+        ("reattach 4294967297 3", "done"),
+        ("insert 4", "key 12884901890"),
+        ("keys", "keys 4294967297 12884901890"),
+    ],
+    &[
+        ("insert 3", "key 4294967297"),
+        ("insert 4", "key 4294967298"),
+        ("keys", "keys 4294967297 4294967298"),
+        ("clear", "done"),
+        ("keys", "keys"),
+        ("len", "len 0"),
+    ],
+    // Numbers: signs, leading zeros and the bounds; even versions and the largest index.
+    &[
+        ("insert -0", "key 4294967297"),
+        ("get 018446744073709551615", "none"),
+        ("insert -2147483648", "key 4294967298"),
+        ("insert 2147483647", "key 4294967299"),
+        ("insert -0007", "key 4294967300"),
+        ("get 00000000004294967297", "value 0"),
+        ("get 2", "value -2147483648"),
+        ("remove 3", "value 2147483647"),
+        ("detach 4294967300", "value -7"),
+        ("reattach 4 -9", "done"),
+        ("get 0", "none"),
+        ("slots", "[{\"value\":null,\"version\":0},{\"value\":0,\"version\":1},\
+            {\"value\":-2147483648,\"version\":1},{\"value\":null,\"version\":2},{\"value\":-9,\"version\":1}]"),
+    ],
+    &[
+        ("insert 5", "key 4294967297"),
+        ("insert 6", "key 4294967298"),
+        ("remove 4294967298", "value 6"),
+        ("insert 7", "key 12884901890"),
+        ("get 4294967298", "none"),
+        ("len", "len 2"),
+        ("keys", "keys 4294967297 12884901890"),
+        ("slots", r#"[{"value":null,"version":0},{"value":5,"version":1},{"value":7,"version":3}]"#),
+    ],
+    // Printing a list changes nothing.
+    &[
+        ("slots", r#"[{"value":null,"version":0}]"#),
+        ("slots", r#"[{"value":null,"version":0}]"#),
+        ("insert 5", "key 4294967297"),
+        ("slots", r#"[{"value":null,"version":0},{"value":5,"version":1}]"#),
+        ("remove 4294967297", "value 5"),
+        ("slots", r#"[{"value":null,"version":0},{"value":null,"version":2}]"#),
+    ],
+    // A list that is read replaces the map; what it held is gone, detached keys too.
+    &[
+        ("insert 1", "key 4294967297"),
+        ("detach 4294967297", "value 1"),
+        ("slots", r#"[{"value":null,"version":0},{"value":null,"version":2}]"#),
+        (r#"load [{"version":0},{"version":2}]"#, "done"),
+        ("reattach 4294967297 3", "not detached"),
+        ("insert 4", "key 12884901889"),
+        (r#"load [{"version":0}]"#, "done"),
+        ("len", "len 0"),
+    ],
+    // The vacant slots of a list are reused from the largest index down.
+    &[
+        (r#"load [{"version":0},{"version":2},{"value":7,"version":1},{"version":2},{"version":2}]"#, "done"),
+        ("get 4294967298", "value 7"),
+        ("insert 1", "key 12884901892"),
+        ("insert 2", "key 12884901891"),
+        ("insert 3", "key 12884901889"),
+        ("insert 4", "key 4294967301"),
+    ],
+    // The text of a list may have blanks, other members and an even first version.
+    &[
+        (r#"load  [ {"other":[1], "version" : 4}, {"version": 3, "value" : -7} ] "#, "done"),
+        ("get 12884901889", "value -7"),
+        ("slots", r#"[{"value":null,"version":0},{"value":-7,"version":3}]"#),
+    ],
+    // The bounds of a value in a list.
+    &[
+        (r#"load [{"version":0},{"value":-2147483648,"version":1},{"value":2147483647,"version":1}]"#, "done"),
+        ("get 4294967297", "value -2147483648"),
+        ("get 4294967298", "value 2147483647"),
+        (r#"load [{"version":0},{"value":2147483648,"version":1}]"#, "shape"),
+        (r#"load [{"version":0},{"value":-2147483649,"version":1}]"#, "shape"),
+        (r#"load [{"version":0},{"value":0.5,"version":1}]"#, "shape"),
+        (r#"load [{"version":0},{"value":"x","version":1}]"#, "shape"),
+        (r#"load [{"version":0},{"value":true,"version":1}]"#, "shape"),
+        ("len", "len 2"),
+    ],
+    &[
+        ("load {}", "shape"),
+        ("load [3]", "shape"),
+        ("load [null]", "shape"),
+        (r#"load [{"value":1}]"#, "shape"),
+        (r#"load [{"version":"1"}]"#, "shape"),
+        (r#"load [{"version":-1}]"#, "shape"),
+        (r#"load [{"version":4294967296}]"#, "shape"),
+        (r#"load [{"version":0}]]"#, "shape"),
+        ("load  ", "shape"),
+    ],
+    // Which error is returned, and with which position.
+    &[
+        (r#"load [{"version":1}]"#, "first not empty"),
+        (r#"load [{"value":7,"version":1},{"version":1}]"#, "first not empty"),
+        (r#"load [{"value":7,"version":0},{"version":1}]"#, "inconsistent 0"),
+        (r#"load [{"version":0},{"version":2},{"value":7,"version":2},{"version":1}]"#, "inconsistent 2"),
+        ("insert 1", "key 4294967297"),
+    ],
+];
 
-/// One character of a literal behind its backslash, and how many bytes it takes.
-fn escape(text: &str, is_bytes: bool) -> (Vec<u8>, usize) {
-    let kind = text.chars().next().expect("an escape");
-    match kind {
-        'n' => (vec![b'\n'], 1),
-        'r' => (vec![b'\r'], 1),
-        't' => (vec![b'\t'], 1),
-        '\\' | '"' => (vec![kind as u8], 1),
-        'x' => {
-            let code = u8::from_str_radix(&text[1..3], 16).expect("two digits");
-            assert!(is_bytes || code < 128, "a text is UTF-8");
-            (vec![code], 3)
-        }
-        'u' => {
-            let end = text.find('}').expect("a brace");
-            let code = u32::from_str_radix(&text[2..end], 16).expect("digits");
-            (char::from_u32(code).expect("a character").to_string().into_bytes(), end + 1)
-        }
-        '\n' => (Vec::new(), text.len() - text.trim_start().len()),
-        other => panic!("an escape {other:?}"),
-    }
-}
+/// Scripts for a `DenseSlotMap`. No reply shows the packed order: keys are printed by ascending index. It decides which slot a
+/// cleared map reuses first.
+pub const DENSE_SCRIPTS: &[Line] = &[
+    ("insert 1", "key 4294967297"),
+    ("insert 2", "key 4294967298"),
+    ("insert 3", "key 4294967299"),
+    ("remove 4294967297", "value 1"),
+    ("keys", "keys 4294967298 4294967299"),
+    ("slots", r#"[{"value":null,"version":0},{"value":null,"version":2},{"value":2,"version":1},{"value":3,"version":1}]"#),
+    ("detach 4294967298", "value 2"),
+    ("insert 4", "key 12884901889"),
+    ("reattach 4294967298 5", "done"),
+    ("insert 6", "key 4294967300"),
+    ("keys", "keys 12884901889 4294967298 4294967299 4294967300"),
+    ("clear", "done"),
+    ("insert 7", "key 12884901891"),
+    (r#"load [{"version":0},{"value":7,"version":1},{"version":2}]"#, "done"),
+    ("insert 8", "key 12884901890"),
+    ("len", "len 2"),
+];
 
-/// A literal from behind its first quotation mark, and how many bytes it takes.
-fn literal(text: &str, is_bytes: bool) -> (Vec<u8>, usize) {
-    let (mut made, mut at) = (Vec::new(), 0);
-    loop {
-        let rest = &text[at..];
-        match rest.as_bytes()[0] {
-            b'"' => return (made, at + 1),
-            b'\\' => {
-                let (bytes, length) = escape(&rest[1..], is_bytes);
-                made.extend(bytes);
-                at += 1 + length;
-            }
-            byte => {
-                made.push(byte);
-                at += 1;
-            }
-        }
-    }
-}
+/// Scripts for a `HopSlotMap`.
+pub const HOP_SCRIPTS: [&[Line]; 2] = [
+    &[
+        ("insert 5", "key 4294967297"),
+        ("insert 6", "key 4294967298"),
+        ("remove 4294967297", "value 5"),
+        ("slots", r#"[{"value":null,"version":0},{"value":null,"version":2},{"value":6,"version":1}]"#),
+    ],
+    // The first block of the list is reused first, from its back, and that of slot 0 last.
+    &[
+        ("insert 1", "key 4294967297"),
+        ("insert 2", "key 4294967298"),
+        ("insert 3", "key 4294967299"),
+        ("insert 4", "key 4294967300"),
+        ("insert 5", "key 4294967301"),
+        ("remove 4294967297", "value 1"),
+        ("remove 4294967299", "value 3"),
+        ("keys", "keys 4294967298 4294967300 4294967301"),
+        ("insert 6", "key 12884901891"),
+        ("insert 7", "key 12884901889"),
+        ("insert 8", "key 4294967302"),
+        ("get 4294967299", "none"),
+        ("get 12884901891", "value 6"),
+        ("len", "len 6"),
+        ("clear", "done"),
+        ("insert 9", "key 12884901894"),
+    ],
+];
 
-/// The tokens of the table that a static item of a source is.
-fn tokens(source: &str, item: &str) -> Vec<Token> {
-    let head = format!("static {item}: ");
-    let start = source.find(&head).unwrap_or_else(|| panic!("no table {item}"));
-    let start = start + source[start..].find("] = ").expect("a value") + 4;
-    let (mut made, mut at, mut depth) = (Vec::new(), start, 0);
-    loop {
-        let rest = &source[at..];
-        let length = match rest.chars().next().expect("the item ends") {
-            mark @ ('(' | '[') => {
-                made.push(Token::Open(mark));
-                depth += 1;
-                1
-            }
-            ')' | ']' => {
-                made.push(Token::Close);
-                depth -= 1;
-                1
-            }
-            '"' => {
-                let is_bytes = source[..at].ends_with('b');
-                let (text, length) = literal(&rest[1..], is_bytes);
-                made.push(Token::Text(text));
-                1 + length
-            }
-            '0'..='9' => {
-                let length = rest.find(|mark: char| !mark.is_ascii_digit()).expect("the number ends");
-                made.push(Token::Number(rest[..length].parse().expect("a number")));
-                length
-            }
-            '/' => rest.find('\n').expect("the comment ends"),
-            ' ' | '\n' | ',' | '&' | 'b' => 1,
-            other => panic!("{item}: {other:?} stands in no table"),
-        };
-        at += length;
-        if depth == 0 {
-            return made;
-        }
-    }
-}
+/// A slot whose versions are used up is retired.
+pub const RETIRED: &[Line] = &[
+    (r#"load [{"value":null,"version":0},{"value":7,"version":4294967295}]"#, "done"),
+    ("remove 18446744069414584321", "value 7"),
+    ("insert 8", "key 4294967298"),
+    ("slots", r#"[{"value":null,"version":0},{"value":null,"version":0},{"value":8,"version":1}]"#),
+    ("load []", "first not empty"),
+    (r#"load [{"version":0},{"version":1}]"#, "inconsistent 1"),
+    ("load x", "shape"),
+    ("len", "len 1"),
+    // It is read as such from a list, too.
+    (r#"load [{"version":0},{"version":0},{"value":8,"version":1},{"version":2}]"#, "done"),
+    ("insert 9", "key 12884901891"),
+    ("insert 10", "key 4294967300"),
+    ("get 4294967297", "none"),
+    ("slots", "[{\"value\":null,\"version\":0},{\"value\":null,\"version\":0},{\"value\":8,\"version\":1},\
+        {\"value\":9,\"version\":3},{\"value\":10,\"version\":1}]"),
+];
 
-/// Scripts, each with what it has to print.
-type Scripts = Vec<(Vec<u8>, Vec<u8>)>;
+/// Which slot an insert reuses depends on the kind of map. These replies are those of the crate slotmap.
+pub const REMOVED: &[Line] = &[
+    ("insert 1", "key 4294967297"),
+    ("insert 2", "key 4294967298"),
+    ("insert 3", "key 4294967299"),
+    ("insert 4", "key 4294967300"),
+    ("remove 4294967298", "value 2"),
+    ("remove 4294967300", "value 4"),
+    ("remove 4294967299", "value 3"),
+];
 
-/// The scripts of a table of lines with their replies. Each inner bracket is a script; in a table without one all of it is.
-fn scripts(source: &str, item: &str) -> Scripts {
-    let (mut made, mut script, mut replies, mut depth) = (Vec::new(), Vec::new(), Vec::new(), 0);
-    let all = tokens(source, item);
-    let deepest = if all.get(1) == Some(&Token::Open('[')) { 2 } else { 1 };
-    let mut texts = Vec::new();
-    for token in all {
-        match token {
-            Token::Open(mark) => depth += usize::from(mark == '['),
-            Token::Text(text) => texts.push(text),
-            Token::Number(_) => panic!("{item}: a number"),
-            Token::Close if texts.len() == 2 => {
-                script.extend([std::mem::take(&mut texts[0]), b"\n".to_vec()].concat());
-                replies.extend([std::mem::take(&mut texts[1]), b"\n".to_vec()].concat());
-                texts.clear();
-            }
-            Token::Close => {
-                assert!(texts.is_empty(), "{item}: a line without a reply");
-                if depth == deepest {
-                    made.push((std::mem::take(&mut script), std::mem::take(&mut replies)));
-                }
-                depth -= 1;
-            }
-        }
-    }
-    made
-}
+/// The slot of the last removal is reused first.
+pub const STACK_SLOTS: &[Line] = &[
+    ("insert 5", "key 12884901891"),
+    ("insert 6", "key 12884901892"),
+    ("insert 7", "key 12884901890"),
+    ("insert 8", "key 4294967301"),
+];
 
-fn assert_prints(kind: &str, script: &[u8], status: i32, wanted: &[u8]) {
-    let (ended, printed) = run("slotrun", &[kind], &crates(), script);
-    let what = format!("slotrun {kind} {:?}", String::from_utf8_lossy(script));
-    assert_eq!(ended, Some(status), "{what}");
-    assert_same(&what, &printed, wanted);
-}
+/// The removed slots are one block, which is reused from its back.
+pub const HOP_SLOTS: &[Line] = &[
+    ("insert 5", "key 12884901892"),
+    ("insert 6", "key 12884901891"),
+    ("insert 7", "key 12884901890"),
+    ("insert 8", "key 4294967301"),
+];
 
-fn source(file: &str) -> String {
-    String::from_utf8(read(&crates().join("slotmap_tests/src/scripts").join(file))).expect("UTF-8")
-}
+/// The key of the first insert after this is in the next two tables.
+pub const CLEARED: &[Line] = &[
+    ("insert 1", "key 4294967297"),
+    ("insert 2", "key 4294967298"),
+    ("clear", "done"),
+];
 
-const KINDS: [&str; 3] = ["basic", "dense", "hop"];
+pub const BASIC_FIRST: &[Line] = &[("insert 3", "key 12884901890")];
 
-#[test]
-fn scripts_with_replies() {
-    let (outputs, lists) = (source("outputs.rt"), source("lists.rt"));
-    let tables: [(&str, &str, &[&str]); 6] = [
-        (&outputs, "SCRIPTS", &["basic"]),
-        (&outputs, "DENSE_SCRIPTS", &["dense"]),
-        (&outputs, "HOP_SCRIPTS", &["hop"]),
-        (&outputs, "RETIRED", &KINDS),
-        (&outputs, "LONG_LINES", &KINDS),
-        (&lists, "TEXTS", &["basic"]),
-    ];
-    let mut count = 0;
-    for (source, item, kinds) in tables {
-        for (script, replies) in scripts(source, item) {
-            for kind in kinds {
-                assert_prints(kind, &script, 0, &replies);
-                count += 1;
-            }
-        }
-    }
-    assert!(count >= 24, "{count} scripts were found");
-}
+pub const DENSE_FIRST: &[Line] = &[("insert 3", "key 12884901889")];
 
-/// Which slot an insert reuses depends on the kind of map: each of these scripts is in two tables.
-#[test]
-fn reused_slots() {
-    let outputs = source("outputs.rt");
-    let pairs = [
-        ("basic", "REMOVED", "STACK_SLOTS"),
-        ("dense", "REMOVED", "STACK_SLOTS"),
-        ("hop", "REMOVED", "HOP_SLOTS"),
-        ("basic", "CLEARED", "BASIC_FIRST"),
-        ("dense", "CLEARED", "DENSE_FIRST"),
-    ];
-    for (kind, first, second) in pairs {
-        let (first, second) = (scripts(&outputs, first).remove(0), scripts(&outputs, second).remove(0));
-        assert_prints(kind, &[first.0, second.0].concat(), 0, &[first.1, second.1].concat());
-    }
-}
+/// A list of eight records, which is longer than 200 bytes, and an insert whose line is as well.
+pub const LONG_LINES: &[Line] = &[
+    ("load [{\"value\":null,\"version\":0},{\"value\":1,\"version\":1},{\"value\":2,\"version\":3},\
+        {\"value\":3,\"version\":5},{\"value\":4,\"version\":7},{\"value\":5,\"version\":9},\
+        {\"value\":6,\"version\":11},{\"value\":null,\"version\":2}]", "done"),
+    ("len", "len 6"),
+    ("get 47244640262", "value 6"),
+    ("slots", "[{\"value\":null,\"version\":0},{\"value\":1,\"version\":1},{\"value\":2,\"version\":3},\
+        {\"value\":3,\"version\":5},{\"value\":4,\"version\":7},{\"value\":5,\"version\":9},\
+        {\"value\":6,\"version\":11},{\"value\":null,\"version\":2}]"),
+    ("insert 0000000000000000000000000000000000000000000000000000000000000000000000000000000000\
+        00000000000000000000000000000000000000000000000000000000000000000000000000000000000000000\
+        00000000000000000000000000000000000000000000000000000000000000000000000000000000000000007", "key 12884901895"),
+    ("get 12884901895", "value 7"),
+    ("insert 8", "key 4294967304"),
+];
 
 /// Scripts, each with the number of its first bad line.
-fn bad_scripts(source: &str, item: &str) -> Vec<(Vec<u8>, usize)> {
-    let (mut made, mut script) = (Vec::new(), None);
-    for token in tokens(source, item) {
-        match token {
-            Token::Text(text) => script = Some(text),
-            Token::Number(number) => made.push((script.take().expect("a script"), number)),
-            Token::Open(_) | Token::Close => {}
-        }
-    }
-    made
-}
+pub const BAD: [(&[u8], usize); 63] = [
+    (b"insert", 1),
+    (b"insert ", 1),
+    (b"insert -", 1),
+    (b"insert +1", 1),
+    (b"insert --1", 1),
+    (b"insert 2147483648", 1),
+    (b"insert -2147483649", 1),
+    (b"insert 1.0", 1),
+    (b"insert 1 2", 1),
+    (b"insert  1", 1),
+    (b"insert 1 ", 1),
+    (b"Insert 1", 1),
+    (b"get", 1),
+    (b"get ", 1),
+    (b"get +1", 1),
+    (b"get -1", 1),
+    (b"get 1 1", 1),
+    (b"get  1", 1),
+    (b" get 1", 1),
+    (b"get 0x1", 1),
+    (b"get 18446744073709551616", 1),
+    (b"remove +1", 1),
+    (b"detach +1", 1),
+    (b"reattach 1", 1),
+    (b"reattach +1 1", 1),
+    (b"reattach 1 +1", 1),
+    (b"reattach 1 2147483648", 1),
+    (b"reattach 1 -2147483649", 1),
+    (b"reattach 18446744073709551616 1", 1),
+    (b"reattach 1 1 1", 1),
+    (b"len 1", 1),
+    (b"len ", 1),
+    (b"len\r\n", 1),
+    (b"len\r", 1),
+    (b"len\x0c", 1),
+    (b"len\x0b\n", 1),
+    (b"len\xc2\xa0", 1),
+    (b"\xc2\xa0len", 1),
+    (b"insert 1\x0c\n", 1),
+    (b"insert 1\xc2\xa0", 1),
+    (b"insert\xc2\xa01", 1),
+    (b"len\x00", 1),
+    (b"len\x00len\n", 1),
+    (b"insert 1\x002", 1),
+    (b"insert\t1", 1),
+    (b"get\t1\n", 1),
+    (b"\xef\xbb\xbflen\n", 1),
+    (b"\xef\xbb\xbfload [{\"version\":0}]", 1),
+    (b"len\xff\n", 1),
+    (b"keys ", 1),
+    (b"clear ", 1),
+    (b"slots ", 1),
+    (b"load", 1),
+    (b"load ", 1),
+    (b"load \xff", 1),
+    (b"drop 1", 1),
+    (b"\n", 1),
+    (b"insert 1\ndrop 1\n", 2),
+    (b"len\nx\ny", 2),
+    (b"len\n\n", 2),
+    (b"len\n\nlen\n", 2),
+    (b"len\nslots\nload x\nlen\nlen\n ", 6),
+    (b"slots\nload [{\"version\":0}]\nload x y\nload ", 4),
+];
 
-#[test]
-fn bad_lines() {
-    let outputs = source("outputs.rt");
-    let all = bad_scripts(&outputs, "BAD");
-    assert!(all.len() >= 63, "{} scripts were found", all.len());
-    for kind in KINDS {
-        for (script, number) in &all {
-            assert_prints(kind, script, 2, format!("bad line {number}\n").as_bytes());
-        }
-    }
-    for (script, number) in bad_scripts(&outputs, "BAD_HOP") {
-        assert_prints("hop", &script, 2, format!("bad line {number}\n").as_bytes());
-    }
-}
+/// Lines that a map without `detach` doesn't have.
+pub const BAD_HOP: [(&[u8], usize); 2] = [
+    (b"insert 1\ndetach 4294967297\n", 2),
+    (b"reattach 4294967297 1", 1),
+];
 
-/// A list of three thousand values is read and printed as it was, by each kind of map.
-#[test]
-fn a_list_of_many_records() {
-    let records: Vec<String> = (0..3000).map(|value| format!(",{{\"value\":{value},\"version\":1}}")).collect();
-    let list = format!("[{{\"value\":null,\"version\":0}}{}]", records.concat());
-    let script = format!("load {list}\nlen\nget 4294970296\nslots\n");
-    let wanted = format!("done\nlen 3000\nvalue 2999\n{list}\n");
-    for kind in KINDS {
-        assert_prints(kind, script.as_bytes(), 0, wanted.as_bytes());
-    }
-}
-
-/// The last line may lack its line feed.
-#[test]
-fn last_line_feed() {
-    for script in ["insert 5\nlen", "insert 5\nlen\n"] {
-        assert_prints("basic", script.as_bytes(), 0, b"key 4294967297\nlen 1\n");
-    }
-}
+/// Lists that are nearly right: whole numbers have no point and no exponent, and a value is a number or null.
+pub const TEXTS: &[Line] = &[
+    (r#"load [{"version":1.0}]"#, "shape"),
+    (r#"load [{"version":0.0}]"#, "shape"),
+    (r#"load [{"version":0e0}]"#, "shape"),
+    (r#"load [{"version":0},{"version":2.0}]"#, "shape"),
+    (r#"load [{"version":0},{"version":4294967294.0}]"#, "shape"),
+    (r#"load [{"version":0},{"value":7,"version":4294967295.0}]"#, "shape"),
+    (r#"load [{"version":null}]"#, "shape"),
+    (r#"load [{"version":false}]"#, "shape"),
+    (r#"load [{"version":0},{"value":7.0,"version":1}]"#, "shape"),
+    (r#"load [{"version":0},{"value":7e0,"version":1}]"#, "shape"),
+    (r#"load [{"version":0},{"value":-0.0,"version":1}]"#, "shape"),
+    (r#"load [{"version":0},{"value":false,"version":1}]"#, "shape"),
+    (r#"load [{"version":0},{"value":false,"version":2}]"#, "shape"),
+    (r#"load [{"version":0},{"value":[],"version":2}]"#, "shape"),
+    ("load [{\"version\":0}]\u{0}", "shape"),
+    ("load [{\"version\":0}]\u{0}x", "shape"),
+    ("load [{\"version\":0}]\u{c}", "shape"),
+    ("load [{\"version\":0}]\u{a0}", "shape"),
+    ("slots", r#"[{"value":null,"version":0}]"#),
+];

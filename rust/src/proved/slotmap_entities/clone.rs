@@ -193,6 +193,13 @@ pub trait CloneKind<K: Key, T: CloneTables<K>>: crate::sealed::CloneKind<K, T> +
 impl<K: Key, A: CloneTable<K>, B: CloneTables<K>> CloneKind<K, (A, B)> for First {
 }
 
+/// # Proved
+///
+/// What this impl is proved to give:
+///
+/// ```text
+/// ghost is_clone = { C.is_clone };
+/// ```
 impl<K: Key, A: CloneTable<K>, B: CloneTables<K>, C: CloneKind<K, B>> CloneKind<K, (A, B)>
     for Then<C> {
 }
