@@ -8,6 +8,7 @@
 #     aarch64-linux/libslotmap_c.a      the one for AArch64
 #     SHA256SUMS                        their sums and those of slotmap.h and heap.c, by their paths from c
 #     VERDICT                           the kit, and what it said of the crate
+#     SOURCES                           sums of the sources, by c/sources.py: ./test.sh compares them with those that are there
 #     wheels                            the Python package, by c/python/wheels.sh, which says what it needs
 #
 # With --check it builds all of this anew in another folder, compares it byte by byte with what is there, and fails at the first
@@ -40,12 +41,13 @@ archive x86_64 --cpu x86-64
 (cd "$out" && sha256sum dist/*/libslotmap_c.a) >>"$out/dist/SHA256SUMS"
 
 if [ -n "$check" ]; then
-    diff -r --exclude=wheels "$dist" "$out/dist" || { echo "c/dist.sh: c/dist differs from what was built; run c/dist.sh" >&2; exit 1; }
+    diff -r --exclude=wheels --exclude=SOURCES "$dist" "$out/dist" || { echo "c/dist.sh: c/dist differs from what was built; run c/dist.sh" >&2; exit 1; }
     echo "c/dist.sh: the same bytes:"
     "$top/c/python/wheels.sh" --check
 else
     rm -rf "$dist"
     cp -r "$out/dist" "$dist"
     "$top/c/python/wheels.sh"
+    python3 "$top/c/sources.py"
 fi
 cat "$out/dist/VERDICT" "$out/dist/SHA256SUMS"
