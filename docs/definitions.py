@@ -13,7 +13,7 @@ from sources import TOP
 
 HEAD = re.compile(r"( *)(?:(?:abbrev|unfoldable|pub|record|data) )*([^\s:({]+)(?= [:({]| *$)")
 BEGINS = re.compile(r" *(?:(?:abbrev|unfoldable|pub|record|data) )|( *)[^\s:({]+ :(?= |$)")
-USE = re.compile(r"(?:unfoldable )?(pub )?use Rattle\.(\w+)\.specs\.([\w.]+?)(?:\.\{([^}]*)\}| as (\w+))? *$")
+USE = re.compile(r"(?:ghost |unfoldable )?(pub )?use ([\w.]+?)(?:\.\{([^}]*)\}| as (\w+))?;? *$")
 
 
 class Definition:
@@ -26,6 +26,30 @@ class Definition:
     def code(self):
         """Its lines without comments."""
         return [it for it in self.lines if it.strip() and not it.strip().startswith("--")]
+
+
+def spec_of(module):
+    """The file of definitions that a module is. One that isn't of this repository stays a name."""
+    named = re.fullmatch(r"Rattle\.(\w+)\.specs\.([\w.]+)", module)
+    path = f"crates/{named.group(1)}/specs/{named.group(2).replace('.', '/')}.antt" if named else ""
+    return path if os.path.exists(os.path.join(TOP, path)) and path else module
+
+
+def imports_of(line):
+    """What a line imports, and whether it passes that on: each with its name here, its name there, or nothing if it is a whole
+    module, and the file or module."""
+    use = USE.match(line)
+    if not use:
+        return False, []
+    passes, module, names, alias = use.groups()
+    if names is None:
+        return bool(passes), [(alias or module.split(".")[-1], "", spec_of(module))]
+    found = []
+    for name in filter(None, (it.strip() for it in names.split(","))):
+        path, _, here = name.partition(" as ")
+        inner, _, there = path.rpartition(".")
+        found.append((here or there, there, spec_of(f"{module}.{inner}" if inner else module)))
+    return bool(passes), found
 
 
 def indent_of(line):
@@ -45,19 +69,14 @@ class File:
 
     def read_uses(self):
         for line in self.lines:
-            use = USE.match(line.strip())
-            if not use:
-                continue
-            passes, crate, module, names, alias = use.groups()
-            spec = f"crates/{crate}/specs/{module.replace('.', '/')}.antt"
-            if alias:
-                self.modules[alias] = spec
-            for name in (names or "").split(","):
-                name, _, other = name.strip().partition(" as ")
+            passes, imported = imports_of(line.strip())
+            for here, name, spec in imported:
                 if name:
-                    self.imports[other or name] = (name, spec)
+                    self.imports[here] = (name, spec)
                     if passes:
-                        self.passed[other or name] = (name, spec)
+                        self.passed[here] = (name, spec)
+                else:
+                    self.modules[here] = spec
 
     def read_definitions(self):
         number, around, comment = 0, [], []
@@ -67,7 +86,10 @@ class File:
             if line.strip().startswith("--"):
                 comment.append(line.strip()[2:].strip())
             elif re.match(r" *module _ ", line):
-                around.append(line)
+                first = number
+                while not self.lines[number].rstrip().endswith(" where"):
+                    number += 1
+                around.append("\n".join(self.lines[first : number + 1]))
                 comment = []
             elif BEGINS.match(line) and not USE.match(line.strip()) and HEAD.match(line):
                 end = self.end_of(number, HEAD.match(line).group(2))
@@ -83,7 +105,7 @@ class File:
         indent, end = indent_of(self.lines[start]), start + 1
         for number in range(start + 1, len(self.lines)):
             line = self.lines[number]
-            if not line.strip():
+            if not line.strip() or line.strip().startswith("--"):
                 continue
             goes_on = indent_of(line) > indent or (indent_of(line) == indent and line.split()[0] in (name, "}"))
             if not goes_on:

@@ -20,7 +20,7 @@ CONTRACTS = {
     "can_next", "next_gives", "remaining", "into_iter_gives", "can_index", "index_gives", "is_clone", "is_infallible",
     "eq", "from_gives", "is_default", "hash_input", "REUSES", "STACKED", "content", "pairs", "data_of", "of_data",
 }
-HEAD = re.compile(r'(pub )?(?:const |extern "C" )?(fn|struct|enum|trait|type) (\w+)|(impl)\b')
+HEAD = re.compile(r'(pub )?(?:pub\([^)]*\) )?(?:const |extern "C" )?(fn|struct|enum|trait|type|const|static) (\w+)|(?:unsafe )?(impl)\b')
 
 
 class Item:
@@ -29,7 +29,7 @@ class Item:
     def __init__(self, path, line, kind, name, public):
         self.path, self.line, self.kind, self.name, self.public = path, line, kind, name, public
         self.doc, self.attributes, self.lines, self.members = [], [], [], []
-        self.of, self.of_trait = "", ""
+        self.of, self.of_trait, self.end = "", "", line
 
     def first_sentence(self):
         text = []
@@ -44,6 +44,11 @@ class Item:
     def header(self):
         """The head of an impl block or trait, on one line, without its brace."""
         return re.sub(r"\s+", " ", " ".join(self.lines)).rstrip(" {").strip()
+
+
+def read(path):
+    with open(os.path.join(TOP, path), encoding="utf-8") as file:
+        return file.read()
 
 
 def indent_of(line):
@@ -90,10 +95,10 @@ def read_items(path, lines, start, stop, indent):
             continue
         if text.startswith("ghost ") or (indent and re.match(r"(type|const) ", text)):
             last = number
-            while not lines[last].rstrip().endswith(";"):
+            while not lines[last].rstrip().endswith(";") or balance("\n".join(lines[number : last + 1])):
                 last += 1
             item = Item(path, number + 1, text.split()[0], re.findall(r"\w+", text)[1], False)
-            item.lines, item.doc = remarks + lines[number : last + 1], doc
+            item.lines, item.doc, item.end = remarks + lines[number : last + 1], doc, last + 1
             found.append(item)
             number, doc, remarks, attributes = last + 1, [], [], []
             continue
@@ -123,13 +128,14 @@ def read_items(path, lines, start, stop, indent):
             number = end
         else:
             end = number + 1
-            if kind == "type":
+            if kind in ("type", "const", "static"):
                 while not lines[end - 1].rstrip().endswith(";"):
                     end += 1
-            elif not text.endswith(";"):
+            elif not text.endswith((";", "{}")):
                 end = end_of(lines, number, indent)
             item.lines = lines[number:end]
             number = end
+        item.end = number
         found.append(item)
     return found
 
@@ -152,10 +158,29 @@ def read_function(item, lines, number, indent):
         number += 1
 
 
+def without_comments(text):
+    """Rattle without its comments: none stands in a string, but `//` may."""
+    return re.sub(r'("(?:[^"\\\n]|\\.)*")|//[^\n]*', lambda found: found.group(1) or "", text)
+
+
+def signature_and_clauses(item):
+    """The text of a function up to its clauses, and of each clause its kind, its name, or nothing, and what stands in its braces."""
+    text = without_comments("\n".join(item.lines))
+    heads = list(re.finditer(r"(?m)^\s*(requires|ensures\*?)\s*(\w*)\s*\{", text))
+    ends = [it.start() for it in heads[1:]] + [len(text)]
+    found = []
+    for head, end in zip(heads, ends):
+        body = text[head.end() : end].rstrip()
+        if not body.endswith("}"):
+            raise ValueError(f"{item.path}:{item.line}: a clause of {item.name} has no end")
+        found.append((head.group(1), head.group(2), body[:-1].strip()))
+    return text[: heads[0].start() if heads else len(text)], found
+
+
 def set_subject(item):
     """The type that an impl block is of, and the trait, if there is one."""
     text = item.header()
-    depth, rest = 0, text[4:]
+    depth, rest = 0, text.removeprefix("unsafe ")[4:]
     if rest.startswith("<"):
         for place, letter in enumerate(rest):
             depth += {"<": 1, ">": -1}.get(letter, 0) if rest[place - 1 : place + 1] not in ("->",) else 0
@@ -180,8 +205,7 @@ def items_of(crate):
     """All items of a crate, each with its file."""
     found = []
     for path in files_of(crate):
-        with open(os.path.join(TOP, path), encoding="utf-8") as file:
-            lines = file.read().split("\n")
+        lines = read(path).split("\n")
         found += read_items(path, lines, 0, len(lines), 0)
     return found
 
@@ -196,8 +220,7 @@ def module_items(crate, module):
     """The comment at the head of a module, and the items of its file, of its public modules, and those that it
     re-exports. The module is that of a crate's root where it has no name."""
     path = f"crates/{crate}/src/{module or 'lib'}.rt"
-    with open(os.path.join(TOP, path), encoding="utf-8") as file:
-        text = file.read()
+    text = read(path)
     lines = text.split("\n")
     found = read_items(path, lines, 0, len(lines), 0)
     children = re.findall(r"(?m)^(pub )?mod (\w+);", text)
@@ -205,8 +228,7 @@ def module_items(crate, module):
     shown = {name for names in named for name in re.findall(r"\w+", names)}
     for public, child in children:
         child_path = os.path.join(f"crates/{crate}/src", module, f"{child}.rt")
-        with open(os.path.join(TOP, child_path), encoding="utf-8") as file:
-            lines = file.read().split("\n")
+        lines = read(child_path).split("\n")
         items = read_items(child_path, lines, 0, len(lines), 0)
         names = {it.name for it in items if it.public} if public else shown
         own = {it.name for it in found if it.public and it.kind != "impl"}
@@ -216,8 +238,7 @@ def module_items(crate, module):
 
 def facade():
     """What crates/slotmap re-exports: tuples of module (or nothing), crate and name, in the order of lib.rt."""
-    with open(os.path.join(TOP, "crates/slotmap/src/lib.rt"), encoding="utf-8") as file:
-        text = file.read()
+    text = read("crates/slotmap/src/lib.rt")
     found, module = [], ""
     for part in re.finditer(r"^pub mod (\w+) \{|^\}|^ *pub use (\w+)(?:::\w+)*::(\{[^}]*\}|\w+);", text, re.M):
         if part.group(1):

@@ -2,7 +2,8 @@
 """Keeps docs/verdicts.tsv: for each crate the axioms that its verdict counts, the contracts of C functions that it calls.
 `docs/verdicts.py LOG` reads the verdicts in a log of the gate, or of a check, and writes them there. Those of other crates stay.
 With --check it writes nothing, and fails where docs/PROVED.md says something else than the table: a crate that it names beside a
-number of axioms, in a line `| `CRATE` | NUMBER |` below "Nothing is assumed", has this number, and each other crate has none.
+number of axioms, in a line `| `CRATE` | NUMBER |` below "Nothing is assumed", has this number, and each other crate has none. A crate without a
+verdict is a fault too.
 """
 
 import os
@@ -52,6 +53,7 @@ def faults():
     section = read(os.path.join(TOP, "docs/PROVED.md")).split("## Nothing is assumed")[1].split("\n## ")[0]
     rows = re.findall(r"(?m)^\| ((?:`\w+`(?:, )?)+) \| (\d+) \|", section)
     said = {crate: int(axioms) for named, axioms in rows for crate in re.findall(r"\w+", named)}
+    found += [f"docs/verdicts.tsv has no verdict of {crate}" for crate in sorted(known - set(kept))]
     for crate, axioms in kept.items():
         if crate not in known:
             found.append(f"docs/verdicts.tsv has {crate}, which crates.txt lacks")

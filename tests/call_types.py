@@ -44,6 +44,21 @@ def inside(text, start):
     return text[start + 1 : closing(text, start) - 1]
 
 
+# Modules of the Rust crate that gather names of several crates.
+GATHERED = ("proved", "fallible", "errors", "serial", "runs", "json")
+STRUCTURES = ("list", "lists", "graph", "paths", "scene", "entities", "scheduler")
+
+
+def path_in_library(path):
+    """The parts of the path by which the library names what is imported from the Rust crate."""
+    if path[0] != "slotmap_proved":
+        return path
+    inner = [it for it in path[1:] if it not in GATHERED]
+    if inner and inner[0].startswith("slotmap_"):
+        return inner
+    return [f"slotmap_{inner[0]}", *inner[1:]] if inner and inner[0] in STRUCTURES else ["slotmap", *inner]
+
+
 def imports_of(text):
     """The names that a file imports, each with the parts of its path."""
     found = {}
@@ -56,7 +71,7 @@ def imports_of(text):
             else:
                 path, _, other = part.partition(" as ")
                 path = (prefix + path).removesuffix("::self").split("::")
-                found[other or path[-1]] = path
+                found[other or path[-1]] = path_in_library(path)
 
     for tree in re.findall(r"(?ms)^(?:pub(?:\(crate\))? )?use (.+?);", text):
         add("", re.sub(r"\s+", " ", tree))
@@ -164,5 +179,5 @@ class Scope:
         """The own items with a name: those of this file or of the module that it is imported from, else any of the crate."""
         crate = self.crate if len(parts) == 1 or parts[0] in ("crate", "super") else parts[0]
         found = [it for it in self.own.get(parts[-1], []) if it[1].crate == crate]
-        near = [it for it in found if it[1].imports is self.imports or len(parts) > 1 and it[0].path.endswith(f"/{parts[-2]}.rt")]
+        near = [it for it in found if it[1].imports is self.imports or len(parts) > 1 and it[0].path[:-1].endswith(f"/{parts[-2]}.r")]
         return near or found

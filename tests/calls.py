@@ -6,8 +6,8 @@
     tests/calls.py --check    only the calls that no test runs, and words of row programs that no row has; status 1 if there are any
 
 A call is a public function, a method of a public type or trait, or a method of a trait in TRAITS for a public type. These kinds of tests run: `rows` (the row
-programs), `sizes` (structures_at_size), `tests` (slotmap_tests), `programs` (slotdemo and slotrun), `C` (c/tests), and `docs` (the examples of the doc
-comments and the programs of the pages, outside the gate). The kind `proved` (the guards and the examples of callers) is proved and never run.
+programs), `sizes` (structures_at_size), `tests` (those of the Rust crate, outside the gate), `programs` (slotdemo and slotrun), `C` (c/tests), and `docs`
+(the examples of the doc comments and the programs of the pages, outside the gate). The kind `proved` (the guards and the examples of callers) is proved and never run.
 
 The script reads texts, and call_finder.py follows types only as far as a function shows them. So it doesn't see
 - which type stands for a parameter of an `impl` or a struct: a call by Primary, Detaching or Secondary counts for each map with that trait, and a
@@ -38,10 +38,11 @@ from sources import MAPS, facade, files_of, items_of
 KINDS = {
     "rows": ["primary_rows", "secondary_rows", "joined_rows", "slotmap_rows"],
     "sizes": ["structures_at_size"],
-    "tests": ["slotmap_tests"],
     "programs": ["slotdemo", "slotmap_script", "slotrun"],
     "proved": ["slotmap_examples", "structure_examples", "map_guards", "structure_guards"],
 }
+# The tests of the Rust crate: they run the erased bodies.
+RUST_TESTS = ["rust/check/tests/**/*.rs", "rust/src/parts_of_structures.rs"]
 # The traits whose methods count for each type that implements them, and these methods.
 TRAITS = {
     "Clone": ["clone"],
@@ -69,7 +70,6 @@ BY_HAND = {
     "outer": "sizes: crates/structures_at_size/src/scenes.rt (Scene's calls make it for each key)",
     "DenseSlotMap::can_replace": "rows: crates/primary_rows/src/dense.rt (`replace_disjoint` begins with it)",
     "KeyData::exact": "rows: crates/primary_rows/src/basic.rt (the maps make each key by it)",
-    "rule_out": "rows: crates/primary_rows/src/basic.rt (the maps call it where a case is proved impossible)",
 }
 
 
@@ -155,6 +155,7 @@ def found_in_crates(library):
         # The row programs share a library of generic functions.
         for group in [crates] if kind == "rows" else [[it] for it in crates]:
             found.read_crates(kind, [path for crate in group for path in files_of(crate)])
+    found.read_crates("tests", [os.path.relpath(it, TOP) for part in RUST_TESTS for it in sorted(glob.glob(os.path.join(TOP, part), recursive=True))])
     for example in [*doc_examples.all_examples()[0], *doc_examples.rows_of_table(), *doc_examples.programs()]:
         found.read_example(example)
     return found.calls
@@ -166,7 +167,7 @@ def lines():
     found, titles = found_in_crates(library), library.titles()
     for (head, call), title in titles.items():
         kinds = found[head, call]
-        parts = [f"{kind}: {', '.join(sorted(kinds[kind]))}" for kind in [*KINDS, "docs"] if kind in kinds]
+        parts = [f"{kind}: {', '.join(sorted(kinds[kind]))}" for kind in ["rows", "sizes", "tests", "programs", "proved", "docs"] if kind in kinds]
         parts += [BY_HAND[title] + " (by hand)"] if title in BY_HAND else []
         yield f"{title}\t{'; '.join(parts)}", title in BY_HAND or bool(set(kinds) - {"proved"})
     for name, files in found_in_c().items():

@@ -230,14 +230,14 @@ def check_proved(fault):
 # What takes how long is said in one paragraph or table each: sentences with a number of minutes, seconds or hours, about one of
 # these.
 COSTS = {
-    "the gate": r"\bgate\b|`rt ci`|`bash \.ci/run`|prove[\w-]*\.sh",
+    "the gate": r"\bgate\b|`\./test\.sh`|`rt ci`|`bash \.ci/run`|prove[\w-]*\.sh",
     "a first check": r"\bfirst (check|time)\b|prove[sd]? (the |its )?(three )?librar|three libraries",
     "a first check of all maps": r"\bten libraries\b",
     "a faulty body": r"\b(wrong|faulty) bod(y|ies)\b",
 }
 TIME = r"\b[\d,.]+ (processor |CPU )?(minutes?|seconds?|hours?)\b|(Processor|CPU) minutes .*(\d|_)"
 # The table of README and that of ARCHITECTURE are of one machine: the sum of the parts is that of the gate, within a tenth.
-SUMS = ("README.md", r"\| `rt ci` \| ([\d,]+) \|"), ("docs/ARCHITECTURE.md", r"(?m)^\| [^|]+ \| (\d+) \| [\d.]+ \|$")
+SUMS = ("README.md", r"\| `\./test\.sh` \| ([\d,]+) \|"), ("docs/ARCHITECTURE.md", r"(?m)^\| [^|]+ \| (\d+) \| [\d.]+ \|$")
 
 
 def sentences_of(block):

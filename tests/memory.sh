@@ -12,7 +12,8 @@
 #   entry of a key, where an older pair is. A sparse map takes that pair out before it asks for memory, so a refused put may lose it. Whether
 #   it asks depends on where the hash map has its keys, and so in a map of the kind `random` on the seed.
 # - `slotrun` prints what it prints without, up to a line that says `memory`, or `no script` at the end. Where one request
-#   was refused, the other lines are then those of the script without the refused line.
+#   was refused, the other lines are then those of the script without the refused line. With no words it prints its usage,
+#   and ends with status 2, where no request is met.
 # - `slotdemo`, whose five structures do without a second try, prints what it prints without, or stops on the way with status 1.
 # - `structures_at_size`, which makes each call of the structures that may ask for memory, at 12 elements, does so too. What it prints
 #   without is what `expected.py` says. Where `StableList::from_iter` is refused a value, it prints this value in a last line. This has to
@@ -300,9 +301,19 @@ try_rows() {
     done <"$top/crates/$1/args"
 }
 
+# check_usage: `slotrun` with no words says so where there is no memory at all.
+check_usage() {
+    local status=0 seen
+    seen=$(env "LD_PRELOAD=$scratch/refuse.so" REFUSE_FROM=1 "$top/crates/slotrun/out/slotrun" </dev/null 2>/dev/null) || status=$?
+    [[ $status = 2 && $seen = "usage: slotrun basic|dense|hop" ]] && return
+    echo "fault: slotrun with no words and no memory ends with status $status, and prints: $seen"
+    exit 1
+}
+
 # try_slotrun: the scripts of tests/memory, for the kinds that their names end in. A bad script ends with status 2.
 try_slotrun() {
     local script kinds kind status
+    check_usage
     for script in "$top"/tests/memory/*.txt; do
         kinds=${script%.txt}
         case $script in */bad*) status=2 ;; *) status=0 ;; esac

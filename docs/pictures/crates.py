@@ -49,7 +49,7 @@ HEIGHT = 56
 # The library of a program stands as the program, guards of the maps as tests, and those of the structures as the structures.
 LIBRARIES = {
     "slotmap_script": "slotrun",
-    "slotmap_tests": TESTS, "structures_at_size": TESTS, "map_guards": TESTS, "structure_guards": STRUCTURES,
+    "structures_at_size": TESTS, "map_guards": TESTS, "structure_guards": STRUCTURES,
 }
 
 
