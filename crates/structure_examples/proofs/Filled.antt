@@ -1,5 +1,5 @@
 -- Calls that can't fail, since there is room.
-use Rattle.std.proofs.Common.{◌≡◌, ◌+◌, ◌≤◌, ℕ, true, List, [], ◌∷◌, ◌++◌, length, length-append, Result, Ok, Err, IsOk, IfOk, ap, arith}
+use Rattle.std.proofs.Common.{◌+◌, ◌≤◌, true, Result, Ok, Err, IsOk, IfOk}
 use Rattle.std.specs.FinMap as map
 use Rattle.slotmap.specs.Words.{Key, Content, IsContent, Inserts}
 use Rattle.slotmap.proofs.Callers.{vacant_less, AllFirst, inserted_first}
@@ -14,9 +14,3 @@ pub filled_after : {E : Type 0} (old new : Content (Unit {0})) (result : Result 
     → AllFirst new × (old.room ≤ new.room + 1)
 filled_after old new (Ok k) fits inserts valid filled = (inserted_first old new k tt valid filled inserts, inserts.room)
 filled_after old new (Err e) fits inserts valid filled = absurd (cc)
-
--- a push that succeeds adds one element, and takes room for one key at most
-pub pushed_after : {E : Type 0} (olds news : List (Key × ℕ)) (old new : Content (Unit {0})) (v : ℕ) (result : Result Key E) → IsOk result
-    → IfOk result (λ k. news ≡ olds ++ (k, v) ∷ []) → IfOk result (λ k. Inserts old k tt new) → (length news ≡ length olds + 1) × (old.room ≤ new.room + 1)
-pushed_after olds news old new v (Ok k) fits is inserts = (omega (arith, ap length is, length-append olds ((k, v) ∷ [])), inserts.room)
-pushed_after olds news old new v (Err e) fits is inserts = absurd (cc)

@@ -7,7 +7,6 @@ pub mod bodies;
 pub mod cache;
 pub mod colours;
 pub mod connected;
-pub mod cursors;
 pub mod cuts;
 pub mod cycles;
 pub mod dirty;

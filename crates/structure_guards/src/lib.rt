@@ -7,11 +7,8 @@
 //! that names no body stands for a clause that no body breaks alone.
 #![tactic(auto, using(slotmap::proofs::Callers::keys))]
 
-pub mod bounded;
 pub mod entities;
 pub mod graph;
-pub mod links;
-pub mod list;
 pub mod lists;
 pub mod paths;
 pub mod scene;

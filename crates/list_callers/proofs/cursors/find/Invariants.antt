@@ -1,7 +1,7 @@
 use Rattle.std.proofs.Common.{◌≢◌}
 use Rattle.slotmap_list.specs.Sequence.{IsOnce}
 use Rattle.slotmap_list.proofs.Looks.{Looks}
-use Rattle.structure_examples.proofs.cursors.find.Given as goal
+use Rattle.list_callers.proofs.cursors.find.Given as goal
 
 -- no element that was passed has the value
 abbrev pub invariant-loop-cursor : goal.invariant-loop-cursor

@@ -1,6 +1,6 @@
 use Rattle.std.proofs.Common.{◌≡◌, ◌+◌, ◌≤◌, length}
 use Rattle.slotmap_list.specs.Sequence.{memory}
-use Rattle.structure_examples.proofs.room.fill_list_again.Given as goal
+use Rattle.list_callers.proofs.room.fill_list_again.Given as goal
 
 -- there are as many elements as were added, and there is room for the others
 abbrev pub invariant-loop : goal.invariant-loop

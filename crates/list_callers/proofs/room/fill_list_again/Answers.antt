@@ -1,7 +1,7 @@
 use Rattle.std.proofs.Common.{◌<◌, refl, ◌∙◌, arith}
 use Rattle.slotmap.proofs.Callers.{room_again}
-use Rattle.structure_examples.proofs.Filled.{pushed_after}
-use Rattle.structure_examples.proofs.room.fill_list_again.Goals as goal
+use Rattle.list_callers.proofs.Filled.{pushed_after}
+use Rattle.list_callers.proofs.room.fill_list_again.Goals as goal
 
 pub loop-init : goal.loop-init
 loop-init c =

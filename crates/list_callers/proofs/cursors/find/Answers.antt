@@ -1,6 +1,6 @@
 use Rattle.std.proofs.Common.{Some, ap, refl, ◌∙◌}
 use Rattle.slotmap_list.proofs.Looks.{look_start, look_here, look_next, look_end}
-use Rattle.structure_examples.proofs.cursors.find.Goals as goal
+use Rattle.list_callers.proofs.cursors.find.Goals as goal
 
 pub loop-cursor-init : goal.loop-cursor-init
 loop-cursor-init c =
