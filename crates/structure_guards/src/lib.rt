@@ -9,7 +9,6 @@
 
 pub mod entities;
 pub mod graph;
-pub mod lists;
 pub mod paths;
 pub mod scene;
 pub mod scheduler;

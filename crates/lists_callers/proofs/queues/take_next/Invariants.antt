@@ -1,6 +1,6 @@
 use Rattle.std.proofs.Common.{◌≡◌, ◌<◌, [], ℕ}
 use Rattle.slotmap_lists.specs.Sequences.{elements_of}
-use Rattle.structure_examples.proofs.queues.take_next.Given as goal
+use Rattle.lists_callers.proofs.queues.take_next.Given as goal
 
 -- the lists of the priorities that were passed are empty
 abbrev pub invariant-loop-priority : goal.invariant-loop-priority
