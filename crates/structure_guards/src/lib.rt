@@ -8,7 +8,6 @@
 #![tactic(auto, using(slotmap::proofs::Callers::keys))]
 
 pub mod entities;
-pub mod graph;
 pub mod paths;
 pub mod scene;
 pub mod scheduler;

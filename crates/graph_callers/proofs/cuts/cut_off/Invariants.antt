@@ -1,6 +1,6 @@
 use Rattle.slotmap_graph.specs.Parts.{edges_at}
 use Rattle.slotmap_graph.proofs.Callers.{GoesAlong, left_along}
-use Rattle.structure_examples.proofs.cuts.cut_off.Given as goal
+use Rattle.graph_callers.proofs.cuts.cut_off.Given as goal
 
 -- no edge was passed that is still there
 abbrev pub invariant-loop-next : goal.invariant-loop-next

@@ -1,7 +1,7 @@
 use Rattle.std.proofs.Common.{◌≡◌}
 use Rattle.slotmap_graph.specs.Parts.{edges_at, from, key_after}
 use Rattle.slotmap_graph.proofs.Callers.{along_here, along_removed, along_removed_all, along_start, removed_less}
-use Rattle.structure_examples.proofs.cuts.cut_off.Goals as goal
+use Rattle.graph_callers.proofs.cuts.cut_off.Goals as goal
 
 pub loop-next-init : goal.loop-next-init
 loop-next-init c = along_start from _ _ _ c.first_from-next.ensures.listed _ c.first_from-next.ensures.first _

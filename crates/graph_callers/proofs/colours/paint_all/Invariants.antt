@@ -1,7 +1,7 @@
 use Rattle.std.specs.Prelude.{◌≡◌, ◌≤◌, ◌<◌, ◌^◌, ◌-◌, Some}
 use Rattle.std.specs.FinMap as map
 use Rattle.slotmap.specs.Words.{Key, IsLive, index_after}
-use Rattle.structure_examples.proofs.colours.paint_all.Given as goal
+use Rattle.graph_callers.proofs.colours.paint_all.Given as goal
 
 -- each node up to the last one is painted, and the nodes are those that there were
 abbrev pub invariant-loop-node : goal.invariant-loop-node

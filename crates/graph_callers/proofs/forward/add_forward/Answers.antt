@@ -1,7 +1,7 @@
 use Rattle.slotmap_graph.proofs.Callers.{found_there, not_found}
 use Rattle.slotmap_graph.proofs.Cycles.{no_cycle_closed}
 use Rattle.std.proofs.Common.{refl}
-use Rattle.structure_examples.proofs.forward.add_forward.Goals as goal
+use Rattle.graph_callers.proofs.forward.add_forward.Goals as goal
 
 pub returns-then-contains-clause-refused : goal.returns-then-contains-clause-refused
 returns-then-contains-clause-refused c none =

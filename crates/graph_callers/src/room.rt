@@ -1,11 +1,10 @@
-//! Structures with room that are emptied and take more, which can't fail.
+//! A graph with room that is emptied and takes more, which can't fail.
 
 ghost use Rattle.std.specs.Prelude.{◌≡◌, ◌<◌, ◌≤◌, ◌+◌};
 ghost use Rattle.slotmap_bounded.specs.Bounded.{space};
 
-use slotmap::{DefaultKey, NodeKey, ReserveError};
+use slotmap::{NodeKey, ReserveError};
 use slotmap_graph::Graph;
-use slotmap_scene::Scene;
 use std::alloc::Global;
 
 // Adds a node, and an edge from it to itself.
@@ -37,20 +36,4 @@ pub fn refilled_graph(alloc: Global) -> Result<Graph<NodeKey, u64, u64>, Reserve
     prove_eq!(graph.node_capacity(), nodes);
     prove_eq!(graph.edge_capacity(), edges);
     Ok(graph)
-}
-
-/// Makes a scene with room for two nodes, adds a root, clears the scene and adds another one. Only the
-/// making may fail, and the capacity stays.
-pub fn refilled_scene(alloc: Global, value: u64) -> Result<Scene<DefaultKey, u64>, ReserveError> {
-    let mut scene = Scene::with_capacity_and_key(alloc, 2)?;
-    let capacity = scene.capacity();
-    let Ok(_) = scene.add_root(0) else {
-        unreachable!()
-    };
-    scene.clear();
-    let Ok(_) = scene.add_root(value) else {
-        unreachable!()
-    };
-    prove_eq!(scene.capacity(), capacity);
-    Ok(scene)
 }
