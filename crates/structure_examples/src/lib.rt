@@ -4,7 +4,6 @@
 pub mod arm;
 pub mod boats;
 pub mod bodies;
-pub mod connected;
 pub mod cuts;
 pub mod dirty;
 pub mod floats;
@@ -14,7 +13,6 @@ pub mod heirs;
 pub mod jobs;
 pub mod reaper;
 pub mod reorder;
-pub mod routes;
 pub mod searches;
 pub mod stores;
 pub mod timer;

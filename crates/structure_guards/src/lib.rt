@@ -8,6 +8,5 @@
 #![tactic(auto, using(slotmap::proofs::Callers::keys))]
 
 pub mod entities;
-pub mod paths;
 pub mod scene;
 pub mod scheduler;

@@ -1,5 +1,5 @@
-use Rattle.structure_guards.proofs.PathLemmas.{none_costs_less, none_leads, start_alone}
-use Rattle.structure_guards.proofs.paths.shortest_paths.Goals as goal
+use Rattle.paths_callers.proofs.PathLemmas.{none_costs_less, none_leads, start_alone}
+use Rattle.paths_callers.proofs.guards.shortest_paths.Goals as goal
 
 pub returns-clause-no_path_costs_less : goal.returns-clause-no_path_costs_less
 returns-clause-no_path_costs_less g c = let ensures = c.shortest_paths.ensures in none_costs_less _ _ _ _ _ _ ensures.least ensures.start

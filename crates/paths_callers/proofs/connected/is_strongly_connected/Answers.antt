@@ -1,7 +1,7 @@
 use Rattle.std.proofs.Common.{arith}
 use Rattle.std.proofs.lemmas.List.{length-map}
 use Rattle.slotmap_paths.proofs.Callers.{leads_to_each, one_at_most}
-use Rattle.structure_examples.proofs.connected.is_strongly_connected.Goals as goal
+use Rattle.paths_callers.proofs.connected.is_strongly_connected.Goals as goal
 
 pub returns : goal.returns
 returns c =

@@ -1,6 +1,6 @@
 use Rattle.std.proofs.Common.{sym}
 use Rattle.slotmap_paths.proofs.Callers.{none_less, none_missed}
-use Rattle.structure_examples.proofs.routes.travel_time.Goals as goal
+use Rattle.paths_callers.proofs.routes.travel_time.Goals as goal
 
 pub returns-in-Some-clause-fastest : goal.returns-in-Some-clause-fastest
 returns-in-Some-clause-fastest g c other way = let here = c.in-Some.ensures.value in

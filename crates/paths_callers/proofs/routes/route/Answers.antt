@@ -1,6 +1,6 @@
 use Rattle.std.proofs.Common.{sym}
 use Rattle.slotmap_paths.proofs.Callers.{none_less, none_missed}
-use Rattle.structure_examples.proofs.routes.route.Goals as goal
+use Rattle.paths_callers.proofs.routes.route.Goals as goal
 
 pub returns-in-Ok-Some-clause-way : goal.returns-in-Ok-Some-clause-way
 returns-in-Ok-Some-clause-way g c = rw c.in-Ok-Some.field-0-is at (c.in-Ok-Some.ensures.route _ _ c.in_ok-paths.ensures.traced)
