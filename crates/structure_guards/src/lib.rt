@@ -8,5 +8,4 @@
 #![tactic(auto, using(slotmap::proofs::Callers::keys))]
 
 pub mod entities;
-pub mod scene;
 pub mod scheduler;

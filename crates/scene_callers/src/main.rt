@@ -1,0 +1,18 @@
+//! Callers of a `Scene`: guards of its contracts, and examples.
+#![tactic(auto, using(slotmap::proofs::Callers::keys))]
+
+mod arm;
+mod cuts;
+mod dirty;
+mod floats;
+mod groups;
+mod guards;
+mod reorder;
+mod room;
+mod searches;
+
+use std::process::ExitCode;
+
+fn main(rt: HostRuntime) -> ExitCode {
+    ExitCode::SUCCESS
+}

@@ -1,6 +1,0 @@
-use Rattle.std.proofs.Common.{◌≢◌, take}
-use Rattle.std.specs.List.{All}
-use Rattle.structure_examples.proofs.searches.find_at.Given as goal
-
-abbrev pub invariant-loop-node : goal.invariant-loop-node
-invariant-loop-node l = All (λ e. e.1 ≢ l.fn.place) (take l.node-index l.node-items)
