@@ -8,4 +8,3 @@
 #![tactic(auto, using(slotmap::proofs::Callers::keys))]
 
 pub mod entities;
-pub mod scheduler;

@@ -1,7 +1,7 @@
 use Rattle.std.proofs.Common.{IsOk, arith}
 use Rattle.slotmap.proofs.Callers.{new_first}
-use Rattle.structure_examples.proofs.Filled.{filled_after}
-use Rattle.structure_examples.proofs.timer.fill_twice.Goals as goal
+use Rattle.scheduler_callers.proofs.Filled.{filled_after}
+use Rattle.scheduler_callers.proofs.timer.fill_twice.Goals as goal
 
 pub fill_again-requires-clause-not_last : goal.fill_again-requires-clause-not_last
 fill_again-requires-clause-not_last c =

@@ -3,7 +3,7 @@
 ghost use Rattle.std.specs.Prelude.{◌≡◌, ◌≤◌, ◌++◌, ◌∷◌, [], ℕ, OnOk, OnErr, IfOk, IfSome, IfNone, not, nat_lt};
 ghost use Rattle.std.specs.List.{All, filter};
 ghost use Rattle.slotmap_scheduler.specs.Schedule.{Waiting, IsOnce, IsByTime};
-ghost use Rattle.structure_examples.specs.Ran.{ran_as, taken_as};
+ghost use Rattle.scheduler_callers.specs.Ran.{ran_as, taken_as};
 
 use slotmap::DefaultKey;
 use slotmap_scheduler::Scheduler;

@@ -1,6 +1,6 @@
 use Rattle.std.proofs.Common.{◌≡◌, ◌++◌, ◌∷◌, [], Err, sym, ap, ◌∙◌, append_assoc, rules}
-use Rattle.structure_examples.specs.Ran.{ran_as}
-use Rattle.structure_examples.proofs.jobs.run_all.Goals as goal
+use Rattle.scheduler_callers.specs.Ran.{ran_as}
+use Rattle.scheduler_callers.proofs.jobs.run_all.Goals as goal
 
 pub returns-in_err-push-clause-others : goal.returns-in_err-push-clause-others
 returns-in_err-push-clause-others c =

@@ -1,6 +1,6 @@
 use Rattle.std.proofs.Common.{append-nil, arith}
 use Rattle.std.proofs.lemmas.List.{map-append}
-use Rattle.structure_examples.proofs.jobs.take_all.Goals as goal
+use Rattle.scheduler_callers.proofs.jobs.take_all.Goals as goal
 
 pub returns-clause-taken : goal.returns-clause-taken
 returns-clause-taken c =

@@ -1,5 +1,5 @@
 use Rattle.std.proofs.Common.{◌≡◌, ◌++◌}
-use Rattle.structure_examples.proofs.jobs.take_all.Given as goal
+use Rattle.scheduler_callers.proofs.jobs.take_all.Given as goal
 
 -- the jobs that were yielded are behind those of the beginning
 abbrev pub invariant-loop-job : goal.invariant-loop-job

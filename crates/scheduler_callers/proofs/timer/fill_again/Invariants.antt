@@ -1,6 +1,6 @@
 use Rattle.std.proofs.Common.{◌≡◌, ◌+◌, ◌≤◌, length}
 use Rattle.std.specs.FinMap as map
-use Rattle.structure_examples.proofs.timer.fill_again.Given as goal
+use Rattle.scheduler_callers.proofs.timer.fill_again.Given as goal
 
 -- as many jobs wait as were scheduled, and for each of the others a slot is vacant
 abbrev pub invariant-loop : goal.invariant-loop

@@ -1,7 +1,7 @@
 use Rattle.std.proofs.Common.{◌≡◌, not, nat_lt, refl, rules}
 use Rattle.slotmap_scheduler.proofs.Callers.{retained_where}
-use Rattle.structure_examples.specs.contracts.jobs.fn.drop_late.retain as closure
-use Rattle.structure_examples.proofs.jobs.drop_late.Goals as goal
+use Rattle.scheduler_callers.specs.contracts.jobs.fn.drop_late.retain as closure
+use Rattle.scheduler_callers.proofs.jobs.drop_late.Goals as goal
 
 pub returns-clause-kept : goal.returns-clause-kept
 returns-clause-kept c =

@@ -1,7 +1,7 @@
 use Rattle.std.proofs.Common.{IsOk, refl, ◌∙◌, arith}
 use Rattle.slotmap.proofs.Callers.{vacant_again}
-use Rattle.structure_examples.proofs.Filled.{vacant_after}
-use Rattle.structure_examples.proofs.timer.fill_again.Goals as goal
+use Rattle.scheduler_callers.proofs.Filled.{vacant_after}
+use Rattle.scheduler_callers.proofs.timer.fill_again.Goals as goal
 
 pub loop-init : goal.loop-init
 loop-init c =

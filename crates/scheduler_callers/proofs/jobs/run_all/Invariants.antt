@@ -1,6 +1,6 @@
 use Rattle.std.proofs.Common.{◌≡◌, ◌++◌, length}
-use Rattle.structure_examples.specs.Ran.{ran_as}
-use Rattle.structure_examples.proofs.jobs.run_all.Given as goal
+use Rattle.scheduler_callers.specs.Ran.{ran_as}
+use Rattle.scheduler_callers.proofs.jobs.run_all.Given as goal
 
 -- what ran, and then what waits, are the jobs of the beginning
 abbrev pub invariant-loop-job : goal.invariant-loop-job

@@ -1,0 +1,12 @@
+//! Callers of a `Scheduler`: guards of its contracts, and examples.
+#![tactic(auto, using(slotmap::proofs::Callers::keys))]
+
+mod guards;
+mod jobs;
+mod timer;
+
+use std::process::ExitCode;
+
+fn main(rt: HostRuntime) -> ExitCode {
+    ExitCode::SUCCESS
+}
