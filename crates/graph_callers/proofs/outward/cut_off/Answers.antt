@@ -1,6 +1,6 @@
 use Rattle.std.proofs.Common.{arith}
 use Rattle.slotmap_graph.proofs.Callers.{first_less, none_first}
-use Rattle.structure_examples.proofs.outward.cut_off.Goals as goal
+use Rattle.graph_callers.proofs.outward.cut_off.Goals as goal
 
 pub loop-edge-smaller : goal.loop-edge-smaller
 loop-edge-smaller c = rw c.remove_edge.ensures.out (first_less _ _ c.in-Some.ensures.first)

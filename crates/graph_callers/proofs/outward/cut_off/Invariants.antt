@@ -1,6 +1,6 @@
 use Rattle.std.proofs.Common.{◌≡◌, length}
 use Rattle.slotmap_graph.specs.Parts.{edges_at}
-use Rattle.structure_examples.proofs.outward.cut_off.Given as goal
+use Rattle.graph_callers.proofs.outward.cut_off.Given as goal
 
 abbrev pub invariant-loop-edge : goal.invariant-loop-edge
 invariant-loop-edge l = l.graph.nodes ≡ l.fn.graph.nodes

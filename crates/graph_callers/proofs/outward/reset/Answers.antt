@@ -1,7 +1,7 @@
 use Rattle.std.proofs.Common.{◌≡◌, refl, sym, ap, ◌∙◌}
 use Rattle.slotmap_graph.specs.Parts.{edges_at, from, key_after}
 use Rattle.slotmap_graph.proofs.Callers.{along_end, along_here, along_less, along_next, along_start}
-use Rattle.structure_examples.proofs.outward.reset.Goals as goal
+use Rattle.graph_callers.proofs.outward.reset.Goals as goal
 
 pub loop-next-init : goal.loop-next-init
 loop-next-init c = record { along = along_start from _ _ _ c.first_from-next.ensures.listed _ c.first_from-next.ensures.first _; out = refl; nodes = refl }

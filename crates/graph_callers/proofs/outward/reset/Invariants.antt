@@ -2,7 +2,7 @@ use Rattle.std.proofs.Common.{◌≡◌, ℕ, Some}
 use Rattle.std.specs.FinMap as map
 use Rattle.slotmap_graph.specs.Parts.{SeenEdge, edges_at}
 use Rattle.slotmap_graph.proofs.Callers.{GoesAlong, left_along}
-use Rattle.structure_examples.proofs.outward.reset.Given as goal
+use Rattle.graph_callers.proofs.outward.reset.Given as goal
 
 -- each edge that was passed has the value 0
 abbrev pub invariant-loop-next : goal.invariant-loop-next

@@ -1,5 +1,5 @@
 use Rattle.slotmap_graph.proofs.Callers.{others_unwritten, value_written}
-use Rattle.structure_examples.proofs.outward.set.Goals as goal
+use Rattle.graph_callers.proofs.outward.set.Goals as goal
 
 pub returns-in-Some-clause-set : goal.returns-in-Some-clause-set
 returns-in-Some-clause-set c = value_written _ _ _
