@@ -11,6 +11,8 @@ A block comes after a line that names where it is from:
     <!-- from tour.rt -->                              the whole file
     <!-- from stale/renew/Answers.antt -->             a proof file
 
+On a page that copies from several crates the file begins with its crate, as `list_callers/cursors.rt`.
+
 In a block the crate's own name is `app`, with the example at its root.
 """
 
@@ -19,11 +21,11 @@ import re
 import sys
 
 TOP = os.path.dirname(os.path.dirname(os.path.abspath(__file__)))
-# The pages, and the crate that each copies from.
+# The pages, and the crate that each copies from, or nothing where each block names its own.
 PAGES = {
     "crates/slotmap/CALLING.md": "slotmap_examples",
     "crates/slotmap/PROVING.md": "slotmap_examples",
-    "docs/STRUCTURES.md": "structure_examples",
+    "docs/STRUCTURES.md": "",
     "docs/FIRST_PROOF.md": "slotmap_examples",
 }
 BLOCK = re.compile(r"(<!-- from (?P<file>\S+?)(?:: (?P<items>[^;]*?))?(?P<bare>; no head)? -->\n)\n?```\w+\n.*?\n```\n", re.S)
@@ -143,6 +145,8 @@ def proof(crate, file):
 
 def block(crate, found):
     file = found.group("file")
+    if not crate:
+        crate, file = file.split("/", 1)
     if file.endswith(".rt"):
         return f"{found.group(1)}\n```rust\n{source(crate, file, found.group('items'), found.group('bare'))}\n```\n"
     return f"{found.group(1)}\n```text\n{proof(crate, file)}\n```\n"

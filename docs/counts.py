@@ -48,8 +48,9 @@ def hundreds(number):
     return f"{round(number, -2):,}"
 
 
-# The crates of callers.
-CALLERS = ("slotmap_examples", "structure_examples")
+def callers():
+    """The crates of callers, by what PROVED.md calls them."""
+    return {"`slotmap_examples`": ["slotmap_examples"], "the structures' callers": [it for it in below() if it.endswith("_callers")]}
 
 
 def minutes_of(crates):
@@ -58,12 +59,17 @@ def minutes_of(crates):
     return sum(int(minutes) for name, minutes in rows if name in crates)
 
 
-def proof_files(crate):
-    """How many functions a crate has, tests left out, and how many of them have no proof file."""
-    sources = [it for it in found(f"crates/{crate}/src/**/*.rt") if "tests" not in it]
+def is_example(path):
+    """Whether a file of a crate of callers is of an example: neither a guard nor what a program makes."""
+    return not re.search(r"/(src|proofs)/(guards|links|bounded|calls|main)\b", path)
+
+
+def proof_files(crates):
+    """How many functions the examples of these crates have, and how many of them have no proof file."""
+    sources = [it for crate in crates for it in found(f"crates/{crate}/src/**/*.rt") if is_example(it)]
     functions = sum(len(re.findall(r"(?m)^ *(?:pub(?:\(crate\))? )?fn \w+", read(it))) for it in sources)
-    folders = {os.path.dirname(it) for it in found(f"crates/{crate}/proofs/**/*.antt") if os.path.basename(it) in ("Answers.antt", "Invariants.antt", "Proof.antt")}
-    return crate, functions, functions - len({it for it in folders if "tests" not in it})
+    proofs = [it for crate in crates for it in found(f"crates/{crate}/proofs/**/*.antt") if is_example(it)]
+    return functions, functions - len({os.path.dirname(it) for it in proofs if os.path.basename(it) in ("Answers.antt", "Invariants.antt", "Proof.antt")})
 
 
 def sentences():
@@ -87,7 +93,9 @@ def sentences():
             f"This proves the {WORDS[len(library)]} libraries",
             f"proves the {WORDS[len(library)]} libraries of `slotmap`, in some {round(minutes_of(library), -1)} CPU minutes",
         ],
-        "docs/PROVED.md": [f"{bare} of the {functions} functions of `{crate}`" for crate, functions, bare in map(proof_files, CALLERS)],
+        "docs/PROVED.md": [
+            f"{bare} of the {functions} functions of {name}" for name, crates in callers().items() for functions, bare in [proof_files(crates)]
+        ],
     }
 
 

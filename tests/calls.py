@@ -39,7 +39,7 @@ KINDS = {
     "rows": ["primary_rows", "secondary_rows", "joined_rows", "slotmap_rows"],
     "sizes": ["structures_at_size"],
     "programs": ["slotdemo", "slotmap_script", "slotrun"],
-    "proved": ["slotmap_examples", "structure_examples", "map_guards", "structure_guards"],
+    "proved": ["slotmap_examples", "map_guards", *(f"{it}_callers" for it in ("list", "lists", "graph", "paths", "scene", "scheduler", "entities"))],
 }
 # The tests of the Rust crate: they run the erased bodies.
 RUST_TESTS = ["rust/check/tests/**/*.rs", "rust/src/parts_of_structures.rs"]

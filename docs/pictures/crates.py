@@ -10,6 +10,8 @@ from svg import BLUE, FOLDER, GREEN, INK, ORANGE, RED, SOFT, Picture, fitted
 
 # The five structures stand as one: each uses slotmap alone.
 STRUCTURES = "five structures"
+# So do the crates of their callers, one beside each structure, several lists and paths.
+CALLERS = "seven crates of callers"
 # So do two crates of tests.
 TESTS = "other tests"
 MEMBERS = {"slotmap_list", "slotmap_lists", "slotmap_links", "slotmap_bounded", "slotmap_graph", "slotmap_entities", "slotmap_scene", "slotmap_scheduler", "slotmap_paths"}
@@ -33,23 +35,24 @@ CRATES = {
     "joined_rows": (3.85, 4, "checks runs on two maps"),
     STRUCTURES: (5.5, 4, "list, graph, entities, scene, scheduler"),
     "slotmap_examples": (2.2, 5, "callers of the maps"),
-    "structure_examples": (3.85, 5, "callers of the structures"),
+    CALLERS: (3.85, 5, "of one structure each"),
     TESTS: (0.55, 5, "of scripts and structures"),
     "slotdemo": (5.5, 5, "program: a demonstration"),
 }
 COLORS = {
     "slotmap": BLUE, "slotmap_c": BLUE, "slotrun": ORANGE, "primary_rows": GREEN, "secondary_rows": RED, "joined_rows": SOFT, STRUCTURES: BLUE,
-    "slotmap_examples": BLUE, "structure_examples": SOFT, "slotdemo": ORANGE,
+    "slotmap_examples": BLUE, CALLERS: SOFT, "slotdemo": ORANGE,
     TESTS: GREEN,
 }
 PITCH, LEFT, TOPS = 152, 22, [698, 598, 460, 316, 186, 66]
 HEIGHT = 56
 
 
-# The library of a program stands as the program, guards of the maps as tests, and those of the structures as the structures.
+# The library of a program stands as the program, and guards of the maps as tests.
 LIBRARIES = {
     "slotmap_script": "slotrun",
-    "structures_at_size": TESTS, "map_guards": TESTS, "structure_guards": STRUCTURES,
+    "structures_at_size": TESTS, "map_guards": TESTS,
+    **{f"{it}_callers": CALLERS for it in ("list", "lists", "graph", "paths", "scene", "scheduler", "entities")},
 }
 
 
@@ -107,7 +110,7 @@ def drop(name, to, shift, bus, color):
 
 
 # Two crates that use the same ones have a level and a shift each, so that their lines keep apart.
-LEVELS = {"slotmap": (30, -12), "slotmap_c": (16, 30), "slotrun": (52, 12), "primary_rows": (28, -12), "secondary_rows": (48, 4), "joined_rows": (38, 20), STRUCTURES: (58, 36), "slotmap_examples": (18, -99), "structure_examples": (46, -30), "slotdemo": (32, 0), TESTS: (8, 60)}
+LEVELS = {"slotmap": (30, -12), "slotmap_c": (16, 30), "slotrun": (52, 12), "primary_rows": (28, -12), "secondary_rows": (48, 4), "joined_rows": (38, 20), STRUCTURES: (58, 36), "slotmap_examples": (18, -99), CALLERS: (46, -30), "slotdemo": (32, 0), TESTS: (8, 60)}
 for name in uses:
     for to in sorted(uses[name], key=lambda it: CRATES[it][0]):
         if to == "slotmap_core":

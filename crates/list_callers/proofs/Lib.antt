@@ -1,1 +1,1 @@
-mod Filled
+mod Pushed

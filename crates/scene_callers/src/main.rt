@@ -2,11 +2,11 @@
 #![tactic(auto, using(slotmap::proofs::Callers::keys))]
 
 mod arm;
-mod cuts;
 mod dirty;
 mod floats;
 mod groups;
 mod guards;
+mod prunes;
 mod reorder;
 mod room;
 mod searches;

@@ -1,6 +1,6 @@
 use Rattle.std.proofs.Common.{◌<◌, refl, ◌∙◌, arith}
 use Rattle.slotmap.proofs.Callers.{room_again}
-use Rattle.list_callers.proofs.Filled.{pushed_after}
+use Rattle.list_callers.proofs.Pushed.{pushed_after}
 use Rattle.list_callers.proofs.room.fill_list_again.Goals as goal
 
 pub loop-init : goal.loop-init
