@@ -1,6 +1,6 @@
 //! A run queue: a list of tasks for each priority, the most urgent one first.
 
-ghost use Rattle.std.specs.Prelude.{◌≡◌, ◌≢◌, ◌<◌, ◌∷◌, [], ℕ, IsTrue, IfSome, IfNone, Some, None, IsSome};
+ghost use Rattle.std.specs.Prelude.{◌≡◌, ◌≢◌, ◌<◌, ◌∷◌, [], ℕ, IsTrue, IfSome, IfNone, Some, None};
 ghost use Rattle.slotmap.specs.Words.{Key as KeyOf};
 ghost use Rattle.slotmap_list.specs.Sequence.{last_or, without};
 ghost use Rattle.slotmap_lists.specs.Sequences.{elements_of, memory, value_under};

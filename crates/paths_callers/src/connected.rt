@@ -1,6 +1,6 @@
 //! Whether each node of a graph leads to each other one.
 
-ghost use Rattle.std.specs.Prelude.{◌≡◌, ◌↔◌, true, IfOk, IsTrue};
+ghost use Rattle.std.specs.Prelude.{◌↔◌, IfOk, IsTrue};
 ghost use Rattle.slotmap.specs.Words.{Key as KeyOf, IsLive};
 ghost use Rattle.slotmap_graph.specs.Search.{Leads};
 

@@ -10,7 +10,8 @@ pub loop-at-init : goal.loop-at-init
 loop-at-init g c = record { goes = below_start _ c.len.ensures.scene _ _ (c.next_below-at.ensures.first refl) _ _ (λ k. refl); below = refl; rest = refl }
 
 -- the key behind this one, among those that were below the node at first
-after : (g : _) (c : goal.After-next_below-at-in-Some g) → option_map g.K.Key.data_of c.next_below-at-in-Some.result ≡ behind (g.K.Key.data_of c.in-Some.key) (all_below c.args.scene.now.nodes.live (g.K.Key.data_of c.args.node))
+after : (g : _) (c : goal.After-next_below-at-in-Some g)
+    → option_map g.K.Key.data_of c.next_below-at-in-Some.result ≡ behind (g.K.Key.data_of c.in-Some.key) (all_below c.args.scene.now.nodes.live (g.K.Key.data_of c.args.node))
 after g c =
     let same = ap (λ s. all_below s.nodes.live (g.K.Key.data_of c.args.node)) c.mark.ensures ∙ below_still _ _ dirtied (λ n. refl) _ ∙ c.loop-at.invariant.below in
     c.next_below-at-in-Some.ensures.along (rw same (below_here _ _ _ _ (rw c.in-Some.is at c.loop-at.invariant.goes))) ∙ ap (behind (g.K.Key.data_of c.in-Some.key)) same
