@@ -9,7 +9,7 @@ use Rattle.scene_callers.proofs.dirty.mark_below.Given as goal
 abbrev pub invariant-loop-at : goal.invariant-loop-at
 invariant-loop-at g l = let old = l.fn.scene.nodes.live in let node = g.K.Key.data_of l.fn.node in record {
   goes : GoesBelow (all_below old node) (option_map g.K.Key.data_of l.at)
-    (λ k. map.get l.scene.nodes.live k ≡ option_map dirtied (map.get old k)) (λ k. map.get l.scene.nodes.live k ≡ map.get old k);
+      (λ k. map.get l.scene.nodes.live k ≡ option_map dirtied (map.get old k)) (λ k. map.get l.scene.nodes.live k ≡ map.get old k);
   below : all_below l.scene.nodes.live node ≡ all_below old node;
   rest : l.scene ≡ with_trees l.fn.scene l.scene.nodes.live;
 }
