@@ -1,5 +1,5 @@
 //! Callers of an entity store, `World`: guards of its contracts, and examples.
-#![tactic(auto, using(slotmap::proofs::Callers::keys))]
+#![tactic(auto)]
 
 mod boats;
 mod bodies;

@@ -1,5 +1,5 @@
 //! Callers of a `Graph`: guards of its contracts, and examples.
-#![tactic(auto, using(slotmap::proofs::Callers::keys))]
+#![tactic(auto)]
 
 mod colours;
 mod cuts;

@@ -1,5 +1,5 @@
 //! Callers of a `StableList`: guards of its contracts, and examples.
-#![tactic(auto, using(slotmap::proofs::Callers::keys))]
+#![tactic(auto)]
 
 mod cursors;
 mod guards;

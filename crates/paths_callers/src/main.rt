@@ -1,5 +1,5 @@
 //! Callers of the searches of a graph: shortest paths, depth first orders and components: guards of its contracts, and examples.
-#![tactic(auto, using(slotmap::proofs::Callers::keys))]
+#![tactic(auto)]
 
 mod connected;
 mod guards;
