@@ -1,9 +1,12 @@
 -- What a call makes of a graph, as a whole.
-use Rattle.slotmap_graph.proofs.Common.{is_some, indices_inserted, indices_still, same_or_other, get-insert_here, get-insert_other, get-put_other, leaves_by_removal, inserted_fresh, live-insert_still}
-use Rattle.slotmap_graph.proofs.Common.{Option, MatchOption, option_map, with_value, ClonesEqual, get-put_live, leaves_none, clone_live, times_first, one_itself, AreDisjoint, clones_edge, HaveIndices}
-use Rattle.slotmap_graph.proofs.Common.{◌∙◌, ℕ, bound, disjoint_still, used-written, with_capacity, IsContent, IsBeside, IsCloneBy, IsCloneOf, is_itself, is_other, CoversMore, with_list, ListsEdges, PutsAlone, SameEdges, PutsBehind, IsThreaded}
-use Rattle.slotmap_graph.proofs.Common.{OnSome, IfSome, IfNone, length, key_cmp, Content, IsLive, Inserts, Removes, Leaves, list_of, IsFree, SeenEdge, IsJoined, edges_at, touches, IsGraph, by_node}
-use Rattle.slotmap_graph.proofs.Common.{Bool, true, false, Some, None, List, [], refl, sym, ap, subst, inl, inr, arith, Key, Pairs, keys, times, Lists, often, Edges, from, to, Seen}
+use Rattle.slotmap_graph.proofs.Common.{is_some, indices_inserted, indices_still, same_or_other, get-insert_here, get-insert_other, get-put_other}
+use Rattle.slotmap_graph.proofs.Common.{leaves_by_removal, inserted_fresh, live-insert_still, Option, MatchOption, option_map, with_value}
+use Rattle.slotmap_graph.proofs.Common.{ClonesEqual, get-put_live, leaves_none, clone_live, times_first, one_itself, AreDisjoint, clones_edge}
+use Rattle.slotmap_graph.proofs.Common.{HaveIndices, ◌∙◌, ℕ, bound, disjoint_still, used-written, with_capacity, IsContent, IsBeside}
+use Rattle.slotmap_graph.proofs.Common.{IsCloneBy, IsCloneOf, is_itself, is_other, CoversMore, with_list, ListsEdges, PutsAlone, SameEdges}
+use Rattle.slotmap_graph.proofs.Common.{PutsBehind, IsThreaded, OnSome, IfSome, IfNone, length, key_cmp, Content, IsLive, Inserts, Removes, Leaves}
+use Rattle.slotmap_graph.proofs.Common.{list_of, IsFree, SeenEdge, IsJoined, edges_at, touches, IsGraph, by_node, Bool, true, false, Some, None, List}
+use Rattle.slotmap_graph.proofs.Common.{[], refl, sym, ap, subst, inl, inr, arith, Key, Pairs, keys, times, Lists, often, Edges, from, to, Seen}
 use Rattle.std.proofs.Common.{◌≡◌, ◌≢◌, ◌+◌, ◌<◌, ◌≤◌, ◌⊎◌, ◌∷◌, ◌++◌}
 use Rattle.slotmap_graph.proofs.Adjacent.{gone_apart, listed_edge, none_listed, nothing_listed}
 use Rattle.slotmap_graph.proofs.Threaded.{at_none, empty_at, lists, other_nodes, put_free, put_seen, put_threaded, same_seen, threaded_along}

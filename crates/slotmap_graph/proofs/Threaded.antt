@@ -1,9 +1,11 @@
 -- The lists of the edges of each node: what is seen of them, and what a change of nodes or edges leaves of them.
-use Rattle.slotmap_graph.proofs.Common.{after_inside, indices_still, keys_without, same_or_other, get-insert_here, get-insert_other, live-insert_still, without_number, option_and_then, eq-zero-or-pos}
-use Rattle.slotmap_graph.proofs.Common.{is_some, option_map, IsThreaded, key_at_live, keys_total, exact_keys, one_itself, map-append, AreDisjoint, number_after, pushed_here, pushed_still, HaveIndices}
-use Rattle.slotmap_graph.proofs.Common.{◌∙◌, ℕ, list_map, keys_same, times_key, list_any, is_itself, one_other, with_list, pushed_was, ListsEdges, key_after, PutsBehind, SameEdges, AreIndices}
-use Rattle.slotmap_graph.proofs.Common.{true, false, bound, Option, length, subst, no_key, some_is, key_cmp, Content, IsLive, without, is_other, list_of, IsFree, SeenEdge, edges_at, ends_at, key_at, keys_at}
-use Rattle.slotmap_graph.proofs.Common.{cond, Some, None, List, [], refl, sym, ap, inl, inr, arith, Key, keys, tied, times, often, Lists, IsIn, Edges}
+use Rattle.slotmap_graph.proofs.Common.{after_inside, indices_still, keys_without, same_or_other, get-insert_here, get-insert_other, live-insert_still}
+use Rattle.slotmap_graph.proofs.Common.{without_number, option_and_then, eq-zero-or-pos, is_some, option_map, IsThreaded, key_at_live, keys_total}
+use Rattle.slotmap_graph.proofs.Common.{exact_keys, one_itself, map-append, AreDisjoint, number_after, pushed_here, pushed_still, HaveIndices, ◌∙◌}
+use Rattle.slotmap_graph.proofs.Common.{ℕ, list_map, keys_same, times_key, list_any, is_itself, one_other, with_list, pushed_was, ListsEdges}
+use Rattle.slotmap_graph.proofs.Common.{key_after, PutsBehind, SameEdges, AreIndices, true, false, bound, Option, length, subst, no_key, some_is}
+use Rattle.slotmap_graph.proofs.Common.{key_cmp, Content, IsLive, without, is_other, list_of, IsFree, SeenEdge, edges_at, ends_at, key_at, keys_at, cond}
+use Rattle.slotmap_graph.proofs.Common.{Some, None, List, [], refl, sym, ap, inl, inr, arith, Key, keys, tied, times, often, Lists, IsIn, Edges}
 use Rattle.std.proofs.Common.{◌≡◌, ◌≢◌, ◌⊎◌, ◌<◌, ◌∷◌, ◌++◌}
 use Rattle.std.specs.Ordering.{eq_by_cmp}
 use Rattle.std.specs.FinMap.Entries.{find}

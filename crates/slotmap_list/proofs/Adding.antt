@@ -1,9 +1,10 @@
 -- Many values that are added at the back.
 use Rattle.std.specs.FinMap as map
 use Rattle.std.specs.FinSet as set
-use Rattle.slotmap_list.proofs.Common.{IsErr, append_assoc, append-nil, length-append, KeepsSpent, keys_total, exact_keys, leaves_in_turn, leaves_none, key_before, put_before, TakesFront, FullAtLimit}
-use Rattle.slotmap_list.proofs.Common.{[], length, list_map, IsSome, is_some, Result, ◌∙◌, key_cmp, Content, IsSpent, Inserts, Leaves, Sequence, memory, value_of, last_or, key_after, put_after, refused}
-use Rattle.slotmap_list.proofs.Common.{ℕ, zero, suc, List, Some, None, Ok, Err, IsOk, IfOk, OnOk, inl, inr, refl, sym, ap, subst, arith, Key, IsNew, Keeps, used, tied, Adds}
+use Rattle.slotmap_list.proofs.Common.{IsErr, append_assoc, append-nil, length-append, KeepsSpent, keys_total, exact_keys, leaves_in_turn, leaves_none}
+use Rattle.slotmap_list.proofs.Common.{key_before, put_before, TakesFront, FullAtLimit, [], length, list_map, IsSome, is_some, Result, ◌∙◌, key_cmp}
+use Rattle.slotmap_list.proofs.Common.{Content, IsSpent, Inserts, Leaves, Sequence, memory, value_of, last_or, key_after, put_after, refused, ℕ, zero, suc}
+use Rattle.slotmap_list.proofs.Common.{List, Some, None, Ok, Err, IsOk, IfOk, OnOk, inl, inr, refl, sym, ap, subst, arith, Key, IsNew, Keeps, used, tied, Adds}
 use Rattle.std.proofs.Common.{◌<◌, ◌≡◌, ◌≤◌, ◌⊎◌, ◌∷◌, ◌++◌, ◌+◌}
 use Rattle.std.proofs.lemmas.List.{map-append}
 use Rattle.slotmap_list.specs.declared.PushError.{PushError}

@@ -1,5 +1,6 @@
 -- What a copy of a map has at the indices of a list.
-use Rattle.slotmap_list.proofs.Common.{◌∙◌, ℕ, List, [], Option, Some, None, refl, sym, ap, subst, Key, Content, IsCloneBy, IsCloneOf, AreClones, ClonesEqual, AreApart, AreLiveIndices, at_index, elements_at}
+use Rattle.slotmap_list.proofs.Common.{◌∙◌, ℕ, List, [], Option, Some, None, refl, sym, ap, subst, Key, Content, IsCloneBy}
+use Rattle.slotmap_list.proofs.Common.{IsCloneOf, AreClones, ClonesEqual, AreApart, AreLiveIndices, at_index, elements_at}
 use Rattle.std.proofs.Common.{◌≡◌, ◌∷◌}
 use Rattle.slotmap_list.proofs.Parts.{element_of, elements_first, rest_indices as indices_behind, at_is, at_live, in_first}
 use Rattle.std.specs.FinMap as map

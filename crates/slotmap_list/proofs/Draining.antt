@@ -1,6 +1,6 @@
 -- What the steps of a drain keep, and what they yield.
-use Rattle.slotmap_list.proofs.Common.{[], Option, IsSome, ◌∙◌, IsSpent, KeepsSpent, leaves_in_turn, leaves_none, Sequence, memory, value_of, TakesFront, EmptiesList, SameLoan, KeepsLent, YieldsInOrder}
-use Rattle.slotmap_list.proofs.Common.{Some, None, IfSome, inl, inr, refl, ap, subst, Key, Leaves}
+use Rattle.slotmap_list.proofs.Common.{[], Option, IsSome, ◌∙◌, IsSpent, KeepsSpent, leaves_in_turn, leaves_none, Sequence, memory, value_of, TakesFront}
+use Rattle.slotmap_list.proofs.Common.{EmptiesList, SameLoan, KeepsLent, YieldsInOrder, Some, None, IfSome, inl, inr, refl, ap, subst, Key, Leaves}
 use Rattle.std.proofs.Common.{◌≡◌, ◌∷◌, ◌⊎◌}
 use Rattle.std.specs.Prelude.{option_map}
 use Rattle.slotmap_list.specs.declared.drain.Drain.{Drain}

@@ -1,9 +1,10 @@
 -- What each change of the map and of the links leaves of a list.
-use Rattle.slotmap_list.proofs.Common.{without_values, get-insert_here, get-insert_other, live-insert_still, same_or_other, alone-written, times_joined, with_value_at, AreLiveIndices, put_by_place, removed_here, removed_other}
-use Rattle.slotmap_list.proofs.Common.{◌∙◌, with_value, clone_live, owners_stay, same_or_not, one_itself, times_first, times_gone, elements_at, put_number}
-use Rattle.slotmap_list.proofs.Common.{length, is_some, key_cmp, Content, IsContent, IsCloneBy, AreClones, same_live, with_list, list_now, one_other, Sequence, AreApart, is_place}
-use Rattle.slotmap_list.proofs.Common.{zero, true, List, Some, None, refl, subst, arith, IsLive, Inserts, Removes, IsNew, Lists, list_of, times, IsFree, without, IsKept, Place}
-use Rattle.slotmap_list.proofs.Common.{ℕ, suc, [], inl, inr, sym, ap, bound, Key, same, used, used_alone}
+use Rattle.slotmap_list.proofs.Common.{without_values, get-insert_here, get-insert_other, live-insert_still, same_or_other, alone-written, times_joined}
+use Rattle.slotmap_list.proofs.Common.{with_value_at, AreLiveIndices, put_by_place, removed_here, removed_other, ◌∙◌, with_value, clone_live}
+use Rattle.slotmap_list.proofs.Common.{owners_stay, same_or_not, one_itself, times_first, times_gone, elements_at, put_number, length, is_some, key_cmp}
+use Rattle.slotmap_list.proofs.Common.{Content, IsContent, IsCloneBy, AreClones, same_live, with_list, list_now, one_other, Sequence, AreApart}
+use Rattle.slotmap_list.proofs.Common.{is_place, zero, true, List, Some, None, refl, subst, arith, IsLive, Inserts, Removes, IsNew, Lists, list_of}
+use Rattle.slotmap_list.proofs.Common.{times, IsFree, without, IsKept, Place, ℕ, suc, [], inl, inr, sym, ap, bound, Key, same, used, used_alone}
 use Rattle.std.proofs.Common.{◌≡◌, ◌≢◌, ◌+◌, ◌<◌, ◌≤◌, ◌∷◌, ◌++◌}
 use Rattle.std.proofs.Math.{ListN.get_or-eq_default, Nat.eq-zero-or-pos}
 use Rattle.slotmap_list.proofs.Parts.{content_apart, put_between, number_without, element_without, IsPlace}

@@ -1,7 +1,8 @@
 -- An element that moves: which elements can, what the list is then, which value each cursor has, and which are at the ends.
-use Rattle.slotmap_list.proofs.Common.{◌∙◌, ℕ, keys_total, exact_keys, same_or_other, is_itself, Sequence, value_of, key_after, key_before, moved_to_back, put_again, insert_beside, put_by_place}
-use Rattle.slotmap_list.proofs.Common.{false, [], Option, is_some, arith, Content, itself, some_is, last_or, without, are_two, IsOnce, is_place, is_move, moved_to, Before, After, Place, Front, Beside}
-use Rattle.slotmap_list.proofs.Common.{Bool, true, cond, List, Some, None, inl, inr, refl, sym, ap, Key, tied, Back}
+use Rattle.slotmap_list.proofs.Common.{◌∙◌, ℕ, keys_total, exact_keys, same_or_other, is_itself, Sequence, value_of, key_after}
+use Rattle.slotmap_list.proofs.Common.{key_before, moved_to_back, put_again, insert_beside, put_by_place, false, [], Option, is_some, arith}
+use Rattle.slotmap_list.proofs.Common.{Content, itself, some_is, last_or, without, are_two, IsOnce, is_place, is_move, moved_to, Before, After}
+use Rattle.slotmap_list.proofs.Common.{Place, Front, Beside, Bool, true, cond, List, Some, None, inl, inr, refl, sym, ap, Key, tied, Back}
 use Rattle.std.proofs.Common.{◌≡◌, ◌≢◌, ◌∷◌, ◌++◌, if◌then◌else◌}
 use Rattle.slotmap_list.proofs.Elements.{last_or-append, other_key}
 use Rattle.slotmap_list.proofs.Callers.{put_after_here, put_after_next, put_after_other, put_before_here, put_before_other, put_before_prev, pushed_here, pushed_other, without_other}

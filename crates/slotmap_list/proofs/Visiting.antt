@@ -1,7 +1,7 @@
 -- A loop that visits the elements from front to back, and keeps or removes each.
-use Rattle.slotmap_list.proofs.Common.{◌∙◌, append_assoc, append-nil, KeepsSpent, leaves_in_turn, leaves_none, same_or_other, Sequence, memory, value_of, first_or, key_after, from_key, with_value_at}
-use Rattle.slotmap_list.proofs.Common.{ℕ, length, arith, Bool, true, false, cond, List, [], Option, Some, None, IsSome, is_some, inl, inr, refl, sym, subst, Key, IsSpent, Leaves, without, IsOnce}
-use Rattle.slotmap_list.proofs.Common.{ap}
+use Rattle.slotmap_list.proofs.Common.{◌∙◌, append_assoc, append-nil, KeepsSpent, leaves_in_turn, leaves_none, same_or_other, Sequence, memory}
+use Rattle.slotmap_list.proofs.Common.{value_of, first_or, key_after, from_key, with_value_at, ℕ, length, arith, Bool, true, false, cond, List, []}
+use Rattle.slotmap_list.proofs.Common.{Option, Some, None, IsSome, is_some, inl, inr, refl, sym, subst, Key, IsSpent, Leaves, without, IsOnce, ap}
 use Rattle.std.proofs.Common.{◌≡◌, ◌<◌, ◌+◌, ◌∷◌, ◌++◌}
 use Rattle.std.specs.Fn.{Mut, Called, Takes}
 use Rattle.std.specs.Borrow.{MutBor}

@@ -1,6 +1,8 @@
 -- An element that moves to an end of a list, or beside another element.
-use Rattle.slotmap_lists.proofs.Common.{length, list_map, is_some, ◌∙◌, ℕ, List, [], Some, None, refl, sym, ap, arith, true, Key, some_is, get_or-set_same, length-map, read_map, value_of, first_or, last_or}
-use Rattle.slotmap_lists.proofs.Common.{key_after, key_before, list_with, put_after, put_before, without, key_times, times_none, elements_of, value_under, with_elements, without_key, put_into, placed_beside}
+use Rattle.slotmap_lists.proofs.Common.{length, list_map, is_some, ◌∙◌, ℕ, List, [], Some, None, refl, sym, ap, arith}
+use Rattle.slotmap_lists.proofs.Common.{true, Key, some_is, get_or-set_same, length-map, read_map, value_of, first_or, last_or}
+use Rattle.slotmap_lists.proofs.Common.{key_after, key_before, list_with, put_after, put_before, without, key_times, times_none}
+use Rattle.slotmap_lists.proofs.Common.{elements_of, value_under, with_elements, without_key, put_into, placed_beside}
 use Rattle.std.proofs.Common.{◌≡◌, ◌≢◌, ◌<◌, ◌∷◌, ◌++◌, Result, Ok, Err, IfOk, OnOk}
 use Rattle.std.proofs.lemmas.Bool.Decides.{nat_tests}
 use Rattle.slotmap_bounded.proofs.Counts.{is_itself}

@@ -1,6 +1,8 @@
 -- What callers of several lists cite: which elements each list has after a call, and which value each cursor.
-use Rattle.slotmap_lists.proofs.Common.{length, list_map, is_some, ◌∙◌, option_map, ℕ, List, [], Option, Some, None, suc, refl, sym, ap, arith, true, cond, Key, get_or-set_same, get_or-set_other, length-map, length-set, read_map}
-use Rattle.slotmap_lists.proofs.Common.{value_of, first_or, last_or, key_after, key_before, put_after, put_before, without, elements_of, all_elements, value_under, list_with, number_with, with_elements, without_key, put_into, placed_beside}
+use Rattle.slotmap_lists.proofs.Common.{length, list_map, is_some, ◌∙◌, option_map, ℕ, List, [], Option, Some, None, suc, refl, sym}
+use Rattle.slotmap_lists.proofs.Common.{ap, arith, true, cond, Key, get_or-set_same, get_or-set_other, length-map, length-set, read_map}
+use Rattle.slotmap_lists.proofs.Common.{value_of, first_or, last_or, key_after, key_before, put_after, put_before, without, elements_of}
+use Rattle.slotmap_lists.proofs.Common.{all_elements, value_under, list_with, number_with, with_elements, without_key, put_into, placed_beside}
 use Rattle.slotmap_list.proofs.Elements.{no_first, no_last}
 use Rattle.slotmap_list.proofs.Callers.{put_after_next, put_after_other, put_before_other, put_before_prev}
 use Rattle.std.proofs.Common.{◌≡◌, ◌≢◌, ◌+◌, ◌<◌, ◌≤◌, ◌∷◌, ◌++◌}

@@ -1,9 +1,10 @@
 -- What each change of the map, of the links and of the homes leaves of the lists.
-use Rattle.slotmap_lists.proofs.Common.{bound, length, set, is_some, ◌∙◌, ℕ, List, [], Some, None, inl, inr, refl, sym, ap, subst, arith, true, get_or-set_same, get_or-set_other, length-set, map-set, removed_here, removed_other}
-use Rattle.slotmap_lists.proofs.Common.{eq-zero-or-pos, get-insert_here, get-insert_other, live-insert_still, same_or_other, Key, key_cmp, Content, IsLive, IsContent}
-use Rattle.slotmap_lists.proofs.Common.{Inserts, Removes, AreApart, same_or_not, Lists, list_of, with_list, times, IsFree, elements_at, AreLiveIndices}
-use Rattle.slotmap_lists.proofs.Common.{is_spot, element_put, index_put, spot_in, without, Place, absent, times_none, element_without, part_left}
-use Rattle.slotmap_lists.proofs.Common.{put_between, content_apart, home_of, one_if, lists_at, AreListed, elements_of, value_under, with_elements, without_key, put_into}
+use Rattle.slotmap_lists.proofs.Common.{bound, length, set, is_some, ◌∙◌, ℕ, List, [], Some, None, inl, inr, refl, sym, ap, subst, arith, true}
+use Rattle.slotmap_lists.proofs.Common.{get_or-set_same, get_or-set_other, length-set, map-set, removed_here, removed_other, eq-zero-or-pos, get-insert_here}
+use Rattle.slotmap_lists.proofs.Common.{get-insert_other, live-insert_still, same_or_other, Key, key_cmp, Content, IsLive, IsContent, Inserts, Removes}
+use Rattle.slotmap_lists.proofs.Common.{AreApart, same_or_not, Lists, list_of, with_list, times, IsFree, elements_at, AreLiveIndices, is_spot, element_put}
+use Rattle.slotmap_lists.proofs.Common.{index_put, spot_in, without, Place, absent, times_none, element_without, part_left, put_between, content_apart}
+use Rattle.slotmap_lists.proofs.Common.{home_of, one_if, lists_at, AreListed, elements_of, value_under, with_elements, without_key, put_into}
 use Rattle.std.proofs.Common.{◌≡◌, ◌≢◌, ◌<◌, ◌≤◌}
 use Rattle.slotmap_lists.proofs.Listed.{seen_list, as_many_lists, once, inside_home, apart_home, home_below, stands, stands_in, value_at}
 use Rattle.slotmap_lists.proofs.Spots.{IsSpot, spot_at, spot_there}

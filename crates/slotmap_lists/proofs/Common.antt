@@ -1,6 +1,7 @@
 -- What the proofs of this crate cite of std, of the crates below and of its own definitions, from one place. Declares nothing.
-pub use Rattle.std.proofs.Common.{zero, suc, get_or, length, map as list_map, set, max, replicate, is_some, ◌∙◌, append_assoc, append-nil, Option, option_map, option_copied, vec_capacity, IfSome, IfNone, IsSome}
-pub use Rattle.std.proofs.Common.{ℕ, List, [], Some, None, inl, inr, refl, sym, ap, subst, arith, Bool, true, false, cond, rules, not}
+pub use Rattle.std.proofs.Common.{zero, suc, get_or, length, map as list_map, set, max, replicate, is_some, ◌∙◌, append_assoc}
+pub use Rattle.std.proofs.Common.{append-nil, Option, option_map, option_copied, vec_capacity, IfSome, IfNone, IsSome, ℕ, List}
+pub use Rattle.std.proofs.Common.{[], Some, None, inl, inr, refl, sym, ap, subst, arith, Bool, true, false, cond, rules, not}
 pub use Rattle.std.proofs.lemmas.List.{get_or-set_same, get_or-set_other, length-map, length-set, map-set}
 pub use Rattle.std.proofs.Math.{ListN.get_or-eq_default, ListN.get_or-map as read_map, Nat.eq-zero-or-pos}
 pub use Rattle.slotmap.proofs.Callers.{contains-keys_of, len-keys_of, alone_spent, spent_finds_nothing, same_lent, same_unlent, keeps_spent_alone, leaves_by_removal, leaves_none, leaves_in_turn}

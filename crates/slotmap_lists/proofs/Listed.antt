@@ -1,8 +1,10 @@
 -- What the map, the links and the homes say of the lists.
-use Rattle.slotmap_lists.proofs.Common.{length, is_some, ◌∙◌, option_map, ℕ, List, [], Option, Some, None, IfSome, cond, itself, exact_keys, same_or_not, inl, inr, refl, sym, ap, arith, true, false, get_or-eq_default, read_map, eq-zero-or-pos}
-use Rattle.slotmap_lists.proofs.Common.{Key, key_cmp, Content, IsLive, len_alike, keys_total, some_is, one_itself, one_other, Lists, list_of, times, IsIn, elements_at, key_there}
-use Rattle.slotmap_lists.proofs.Common.{value_of, first_or, last_or, key_after, key_before, IsOnce, none_there, once_if, once_long, times_none, key_times, IsAt, stands_at, value_there, value_none}
-use Rattle.slotmap_lists.proofs.Common.{next_there, prev_there, first_at, last_at, as_often, home_of, lists_at, AreListed, elements_of, all_elements, value_under, list_with, number_with, length-map}
+use Rattle.slotmap_lists.proofs.Common.{length, is_some, ◌∙◌, option_map, ℕ, List, [], Option, Some, None, IfSome, cond, itself, exact_keys}
+use Rattle.slotmap_lists.proofs.Common.{same_or_not, inl, inr, refl, sym, ap, arith, true, false, get_or-eq_default, read_map, eq-zero-or-pos, Key}
+use Rattle.slotmap_lists.proofs.Common.{key_cmp, Content, IsLive, len_alike, keys_total, some_is, one_itself, one_other, Lists, list_of, times, IsIn}
+use Rattle.slotmap_lists.proofs.Common.{elements_at, key_there, value_of, first_or, last_or, key_after, key_before, IsOnce, none_there, once_if, once_long}
+use Rattle.slotmap_lists.proofs.Common.{times_none, key_times, IsAt, stands_at, value_there, value_none, next_there, prev_there, first_at, last_at}
+use Rattle.slotmap_lists.proofs.Common.{as_often, home_of, lists_at, AreListed, elements_of, all_elements, value_under, list_with, number_with, length-map}
 use Rattle.std.proofs.Common.{◌≡◌, ◌≢◌, ◌<◌, ◌≤◌}
 use Rattle.std.proofs.lemmas.Bool.{cases_lt}
 use Rattle.slotmap_list.proofs.Elements.{front_of, last_in, some_there, after_stands, before_stands}

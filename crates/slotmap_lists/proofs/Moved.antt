@@ -1,6 +1,7 @@
 -- An element that is taken out of its list and put into a place of another one, or of the same.
-use Rattle.slotmap_lists.proofs.Common.{length, set, is_some, ◌∙◌, ℕ, List, Some, refl, sym, ap, arith, true, get_or-set_same, Key, Content, some_is, Lists, list_of, with_list, IsFree, IsIn, Place}
-use Rattle.slotmap_lists.proofs.Common.{is_spot, element_put, index_put, spot_in, owners_stay, home_of, lists_at, AreListed, elements_of, value_under, number_with, without, without_key, put_into, Sequences}
+use Rattle.slotmap_lists.proofs.Common.{length, set, is_some, ◌∙◌, ℕ, List, Some, refl, sym, ap, arith, true, get_or-set_same, Key, Content}
+use Rattle.slotmap_lists.proofs.Common.{some_is, Lists, list_of, with_list, IsFree, IsIn, Place, is_spot, element_put, index_put, spot_in, owners_stay}
+use Rattle.slotmap_lists.proofs.Common.{home_of, lists_at, AreListed, elements_of, value_under, number_with, without, without_key, put_into, Sequences}
 use Rattle.std.proofs.Common.{◌≡◌, ◌≢◌, ◌<◌}
 use Rattle.slotmap_lists.proofs.Callers.{into_other, into_long}
 use Rattle.slotmap_lists.proofs.Changes.{listed_moved, lists_moved, rest_has, taken_free}

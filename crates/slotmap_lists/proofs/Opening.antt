@@ -1,6 +1,6 @@
 -- Lists that are new, or in which only the room changed.
-use Rattle.slotmap_lists.proofs.Common.{length, is_some, ◌∙◌, ℕ, List, [], replicate, refl, sym, ap, arith, true, Key, Content, IsNew, Lists, list_of, times, lists_at, home_of, one_if, AreListed}
-use Rattle.slotmap_lists.proofs.Common.{bound, key_cmp, elements_at, get_or, list_map, zero, suc}
+use Rattle.slotmap_lists.proofs.Common.{length, is_some, ◌∙◌, ℕ, List, [], replicate, refl, sym, ap, arith, true, Key, Content, IsNew, Lists}
+use Rattle.slotmap_lists.proofs.Common.{list_of, times, lists_at, home_of, one_if, AreListed, bound, key_cmp, elements_at, get_or, list_map, zero, suc}
 use Rattle.std.proofs.Common.{◌≡◌, ◌<◌, ◌≤◌, ◌∷◌, ◌-◌, ◌^◌}
 use Rattle.std.proofs.lemmas.List.{length-replicate}
 use Rattle.slotmap_links.specs.Lists.{with_capacity, with_members, with_owners}

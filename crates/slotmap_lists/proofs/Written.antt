@@ -1,7 +1,8 @@
 -- What a write to the value of a live key leaves of the lists.
-use Rattle.slotmap_lists.proofs.Common.{used-written, ◌∙◌, ℕ, List, [], Some, inl, inr, refl, sym, ap, arith, Key, Content, IsLive, Lists, list_of, with_value, without_values, some_is, AreApart}
-use Rattle.slotmap_lists.proofs.Common.{alone-written, same_live, get-insert_here, get-insert_other, same_or_not, elements_at, part_left, placed, splits, key_times, as_often, lists_at, home_of, AreListed}
-use Rattle.slotmap_lists.proofs.Common.{with_value_at, with_value_in, Sequences, list_map}
+use Rattle.slotmap_lists.proofs.Common.{used-written, ◌∙◌, ℕ, List, [], Some, inl, inr, refl, sym, ap, arith, Key, Content}
+use Rattle.slotmap_lists.proofs.Common.{IsLive, Lists, list_of, with_value, without_values, some_is, AreApart, alone-written, same_live}
+use Rattle.slotmap_lists.proofs.Common.{get-insert_here, get-insert_other, same_or_not, elements_at, part_left, placed, splits, key_times}
+use Rattle.slotmap_lists.proofs.Common.{as_often, lists_at, home_of, AreListed, with_value_at, with_value_in, Sequences, list_map}
 use Rattle.std.proofs.Common.{◌≡◌, ◌≢◌, ◌∷◌}
 use Rattle.slotmap_list.proofs.Elements.{apart_first}
 use Rattle.slotmap_lists.proofs.Listed.{apart_home, stands}

@@ -1,5 +1,6 @@
 -- Several lists as their user sees them: for each number a list of keys with their values, from front to back.
-use Rattle.std.specs.Prelude.{refl, ℕ, ◌+◌, nat_lt, List, [], ◌∷◌, ◌++◌, Option, Some, None, Bool, cond, not, ◌&&◌, is_some, length, slice_index_or, slice_set, option_map, map as list_map}
+use Rattle.std.specs.Prelude.{refl, ℕ, ◌+◌, nat_lt, List, [], ◌∷◌, ◌++◌, Option, Some, None, Bool, cond}
+use Rattle.std.specs.Prelude.{not, ◌&&◌, is_some, length, slice_index_or, slice_set, option_map, map as list_map}
 use Rattle.std.specs.Coded.{Coded, code_by, coded×, coded_list, coded_ℕ}
 use Rattle.slotmap.specs.Words.{Key, coded_key, Content, keys_code}
 use Rattle.slotmap_bounded.specs.{Bounded.space, KeyLists.is_key}

@@ -1,7 +1,9 @@
 -- A loop along the nodes below a node that writes them on its way: which keys it passed, and which are ahead.
 use Rattle.std.proofs.Common.{◌++◌, ◌<◌, ◌∷◌, ◌≡◌, ◌≢◌, ◌≤◌}
-use Rattle.slotmap_scene.proofs.Common.{IsScene, Key, List, Nodes, None, Option, Some, [], all_below, ap, append-nil, append_assoc, arith, behind, changed, changed_here, changed_in, changed_other, children_in, children_of, first_or}
-use Rattle.slotmap_scene.proofs.Common.{Node, changed_keeps, is_some, keys_down, keys_from, inl, inr, in_midst, length, len_alike, one_itself, one_other, option_map, refl, same, same_Some, same_or_other, subst, suc, sym, times, times_pushed, value_of, with_value, zero, ℕ, ◌∙◌}
+use Rattle.slotmap_scene.proofs.Common.{IsScene, Key, List, Nodes, None, Option, Some, [], all_below, ap, append-nil, append_assoc, arith, behind}
+use Rattle.slotmap_scene.proofs.Common.{changed, changed_here, changed_in, changed_other, children_in, children_of, first_or, Node, changed_keeps}
+use Rattle.slotmap_scene.proofs.Common.{is_some, keys_down, keys_from, inl, inr, in_midst, length, len_alike, one_itself, one_other, option_map, refl}
+use Rattle.slotmap_scene.proofs.Common.{same, same_Some, same_or_other, subst, suc, sym, times, times_pushed, value_of, with_value, zero, ℕ, ◌∙◌}
 use Rattle.slotmap_scene.proofs.Descending.{below_once}
 use Rattle.slotmap_scene.proofs.Walking.{behind_here, from_behind}
 use Rattle.std.specs.FinMap as map

@@ -10,7 +10,8 @@ pub use Rattle.slotmap_scene.proofs.Climbs.{has_parent, no_cycle, parent_there, 
 -- a node without a first child has none
 pub use Rattle.slotmap_scene.proofs.Walking.{none_first}
 -- a loop along the nodes below a node that writes them on its way, and the nodes below one where a value was changed
-pub use Rattle.slotmap_scene.proofs.BelowLoops.{GoesBelow, below_changed, below_end, below_here, below_less, below_next, below_other, below_others, below_start, below_still, left_below, value_unwritten, value_written}
+pub use Rattle.slotmap_scene.proofs.BelowLoops.{GoesBelow, below_changed, below_end, below_here, below_less, below_next, below_other}
+pub use Rattle.slotmap_scene.proofs.BelowLoops.{below_others, below_start, below_still, left_below, value_unwritten, value_written}
 
 -- for `using`
 pub ruleset families = (without_pushed)

@@ -27,7 +27,8 @@ pub use Rattle.slotmap_bounded.specs.Bounded.{bound, bound_with, space}
 pub use Rattle.slotmap_bounded.specs.Indices.{AreIndices, HasKey, HaveIndices, found_at, key_at, keys_at}
 pub use Rattle.slotmap_bounded.proofs.Alone.{len_alike}
 pub use Rattle.slotmap_bounded.proofs.Changed.{changed_gives, changed_here, changed_keeps, changed_other}
-pub use Rattle.slotmap_bounded.proofs.Counts.{as_many, is_itself, is_other, no_more_than, one_itself, one_other, times_first, times_gone, times_joined, times_pushed, times_without, without_none, without_pushed}
+pub use Rattle.slotmap_bounded.proofs.Counts.{as_many, is_itself, is_other, no_more_than, one_itself, one_other, times_first}
+pub use Rattle.slotmap_bounded.proofs.Counts.{times_gone, times_joined, times_pushed, times_without, without_none, without_pushed}
 pub use Rattle.slotmap_bounded.proofs.Linking.{in_midst, none_last, split_at}
 pub use Rattle.slotmap_bounded.proofs.MapKeys.{key_live, key_there, keys_once}
 pub use Rattle.slotmap_bounded.proofs.Mapped.{entries-made, get-made, made, some-mapped}
@@ -39,8 +40,8 @@ pub use Rattle.slotmap_links.proofs.Changes.{covered, disjoint_still, list_clear
 pub use Rattle.slotmap_links.proofs.Counts.{one_itself as number_itself, one_other as number_other, same as same_number, same_or_other as same_or_other_number, times_first as often_first}
 pub use Rattle.slotmap_links.proofs.Counts.{times_gone as often_gone, times_joined as often_joined, times_without as often_without}
 pub use Rattle.slotmap_links.proofs.Linking.{after_inside, before_inside, first_in, last_in}
-pub use Rattle.slotmap_links.specs.Lists.{AreDisjoint, with_capacity, CoversMore, IsFree, IsIn, Lists, first_or, last_or as last_number, list_of, number_after, number_before, times as often, with_list}
-pub use Rattle.slotmap_links.specs.Lists.{without as without_number}
+pub use Rattle.slotmap_links.specs.Lists.{AreDisjoint, with_capacity, CoversMore, IsFree, IsIn, Lists, first_or, last_or as last_number}
+pub use Rattle.slotmap_links.specs.Lists.{list_of, number_after, number_before, times as often, with_list, without as without_number}
 pub use Rattle.slotmap_scene.specs.Above.{GoesUp, HasRoot, keys_up, roots_in}
 pub use Rattle.slotmap_scene.specs.Below.{GoesDown, IsTop, WalksBelow, all_below, keys_down, keys_from}
 pub use Rattle.slotmap_scene.specs.Climb.{ClimbsTo, IsTree, IsWithin, StepsTo, has_node, lacks_node, parent_in, parent_of, with_parent}

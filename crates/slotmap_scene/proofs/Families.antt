@@ -1,13 +1,16 @@
 -- What is seen of the values, the parents and the children of a scene together, and what a change of one of them shows.
 use Rattle.std.proofs.Common.{◌<◌, ◌∷◌, ◌≡◌, ◌≢◌, ◌≤◌, ◌⊎◌}
 use Rattle.slotmap_scene.specs.Kept.{nodes_by}
-use Rattle.slotmap_scene.proofs.Common.{AreCovered, AreDisjoint, AreIndices, Bool, bound, Content, HasKey, HaveIndices, HoldsNodes, IfSome, IsFree, IsIn, IsLive, Key, List, Lists, Node, Nodes, None, Option}
-use Rattle.slotmap_scene.proofs.Common.{Some, [], ap, arith, by_live, changed, changed_here, changed_other, children_in, children_of, common_steps, cond, entries-made, eq-zero-or-pos, exact_keys}
-use Rattle.slotmap_scene.proofs.Common.{false, filter, first_key, first_or, found_at, found_has, found_live, found_same, found_zero, get-made, get_or-set_other, get_or-set_same, indices_still, inl}
-use Rattle.slotmap_scene.proofs.Common.{inr, is_some, key_and_value, key_at, key_cmp, key_live, keys_at, keys_same, keys_total, last_key, last_number, last_or, length, length-map, length-set}
-use Rattle.slotmap_scene.proofs.Common.{list_map, list_now, list_of, list_other, made, map-map, nat_eq, nat_tests, no_key, node_at, not, number_itself, often, often_first, one_itself, option_map}
-use Rattle.slotmap_scene.proofs.Common.{owner_of, owners_stay, parent_at, parent_in, parent_index, parent_of, refl, roots_in, roots_of, same_or_other, same_or_other_number, set, some-mapped, subst}
-use Rattle.slotmap_scene.proofs.Common.{sym, times, times_first, times_key, true, value_of, with_children_of, with_list, with_parent, ℕ, ◌∙◌}
+use Rattle.slotmap_scene.proofs.Common.{AreCovered, AreDisjoint, AreIndices, Bool, bound, Content, HasKey, HaveIndices, HoldsNodes, IfSome, IsFree}
+use Rattle.slotmap_scene.proofs.Common.{IsIn, IsLive, Key, List, Lists, Node, Nodes, None, Option, Some, [], ap, arith, by_live, changed, changed_here}
+use Rattle.slotmap_scene.proofs.Common.{changed_other, children_in, children_of, common_steps, cond, entries-made, eq-zero-or-pos, exact_keys, false}
+use Rattle.slotmap_scene.proofs.Common.{filter, first_key, first_or, found_at, found_has, found_live, found_same, found_zero, get-made}
+use Rattle.slotmap_scene.proofs.Common.{get_or-set_other, get_or-set_same, indices_still, inl, inr, is_some, key_and_value, key_at, key_cmp, key_live}
+use Rattle.slotmap_scene.proofs.Common.{keys_at, keys_same, keys_total, last_key, last_number, last_or, length, length-map, length-set, list_map}
+use Rattle.slotmap_scene.proofs.Common.{list_now, list_of, list_other, made, map-map, nat_eq, nat_tests, no_key, node_at, not, number_itself, often}
+use Rattle.slotmap_scene.proofs.Common.{often_first, one_itself, option_map, owner_of, owners_stay, parent_at, parent_in, parent_index, parent_of}
+use Rattle.slotmap_scene.proofs.Common.{refl, roots_in, roots_of, same_or_other, same_or_other_number, set, some-mapped, subst, sym, times}
+use Rattle.slotmap_scene.proofs.Common.{times_first, times_key, true, value_of, with_children_of, with_list, with_parent, ℕ, ◌∙◌}
 use Rattle.std.specs.FinMap as map
 
 -- nodes that are the same but for one

@@ -1,11 +1,14 @@
 -- The parent and the children of each node, and what a scene is once a node became a root, was moved below another one, or came.
 use Rattle.std.proofs.Common.{◌++◌, ◌+◌, ◌<◌, ◌∷◌, ◌≡◌, ◌≢◌, ◌≤◌}
-use Rattle.slotmap_scene.proofs.Common.{After, AreListed, Before, ClonesEqual, Content, Err, IfOk, Inserts, IsCloneBy, IsCloneOf, IsMoved, IsNewChild, IsNodeClone, IsParent, IsScene, IsWithin, Keeps}
-use Rattle.slotmap_scene.proofs.Common.{KeepsSpent, Key, Leaves, List, Node, Nodes, None, Ok, OnErr, Option, Result, Side, Some, [], ap, arith, as_placed, beside_first, changed, changed_gives}
-use Rattle.slotmap_scene.proofs.Common.{changed_here, changed_in, changed_keeps, changed_other, child, children_in, children_of, clone_live, cond, exact_keys, false, forgets, get-insert_here}
-use Rattle.slotmap_scene.proofs.Common.{get-insert_other, has_node, inl, inr, is_key, is_parent, is_some, key_cmp, keys_total, lacks_node, leaves_by_write, leaves_none, len_alike, none_of, one_itself}
-use Rattle.slotmap_scene.proofs.Common.{one_other, option_map, parent_in, parent_of, placed, put_in_place, refl, same, same_or_other, shown_spent, subst, sym, times, times_first, times_gone}
-use Rattle.slotmap_scene.proofs.Common.{Forest, bound, memory, space, times_pushed, times_without, true, value_of, with_children_of, with_parent, with_trees, with_value, without, without_child, without_none, ◌∙◌}
+use Rattle.slotmap_scene.proofs.Common.{After, AreListed, Before, ClonesEqual, Content, Err, IfOk, Inserts, IsCloneBy, IsCloneOf, IsMoved, IsNewChild}
+use Rattle.slotmap_scene.proofs.Common.{IsNodeClone, IsParent, IsScene, IsWithin, Keeps, KeepsSpent, Key, Leaves, List, Node, Nodes, None, Ok, OnErr}
+use Rattle.slotmap_scene.proofs.Common.{Option, Result, Side, Some, [], ap, arith, as_placed, beside_first, changed, changed_gives, changed_here}
+use Rattle.slotmap_scene.proofs.Common.{changed_in, changed_keeps, changed_other, child, children_in, children_of, clone_live, cond, exact_keys}
+use Rattle.slotmap_scene.proofs.Common.{false, forgets, get-insert_here, get-insert_other, has_node, inl, inr, is_key, is_parent, is_some, key_cmp}
+use Rattle.slotmap_scene.proofs.Common.{keys_total, lacks_node, leaves_by_write, leaves_none, len_alike, none_of, one_itself, one_other, option_map}
+use Rattle.slotmap_scene.proofs.Common.{parent_in, parent_of, placed, put_in_place, refl, same, same_or_other, shown_spent, subst, sym, times}
+use Rattle.slotmap_scene.proofs.Common.{times_first, times_gone, Forest, bound, memory, space, times_pushed, times_without, true, value_of}
+use Rattle.slotmap_scene.proofs.Common.{with_children_of, with_parent, with_trees, with_value, without, without_child, without_none, ◌∙◌}
 use Rattle.slotmap_scene.proofs.Climbs.{alone_within, parent_there, tree_moved, tree_same}
 use Rattle.std.specs.FinMap as map
 

@@ -1,11 +1,13 @@
 -- A node is put among the children of another one or taken out of them, or gets another parent: what is kept then, and what it shows.
 use Rattle.std.proofs.Common.{◌++◌, ◌+◌, ◌<◌, ◌∷◌, ◌≡◌, ◌≢◌, ◌≤◌}
-use Rattle.slotmap_scene.proofs.Common.{After, AreDisjoint, AreIndices, Before, Bool, Content, HasKey, HaveIndices, HoldsNodes, IfSome, IfSome_then, IsFree, IsIn, IsLive, IsParent, IsScene, IsSome}
-use Rattle.slotmap_scene.proofs.Common.{Key, List, Lists, Nodes, None, Option, Side, Some, [], ap, arith, behind, beside_first, children_of, children_under, cond, false, family, Forest, forest, first_index, first_key}
-use Rattle.slotmap_scene.proofs.Common.{first_or, has_node, in_front, inl, inr, is_key, key_at, key_at_live, keys_at, keys_without, later_indices, length, list_of, map-append, nat_eq, number_after}
-use Rattle.slotmap_scene.proofs.Common.{number_before, number_in_place, number_other, often, often_first, often_gone, often_joined, often_without, option_map, parent_at, parent_index, parent_of}
-use Rattle.slotmap_scene.proofs.Common.{placed, put_in_place, put_on, refl, same_at, same_number, same_or_other_number, set, siblings_of, some_is, subst, sym, times, true, with_children_of, with_list}
-use Rattle.slotmap_scene.proofs.Common.{with_parent, with_trees, without, without_child, without_number, ℕ, ◌∙◌}
+use Rattle.slotmap_scene.proofs.Common.{After, AreDisjoint, AreIndices, Before, Bool, Content, HasKey, HaveIndices, HoldsNodes, IfSome, IfSome_then}
+use Rattle.slotmap_scene.proofs.Common.{IsFree, IsIn, IsLive, IsParent, IsScene, IsSome, Key, List, Lists, Nodes, None, Option, Side, Some, [], ap, arith}
+use Rattle.slotmap_scene.proofs.Common.{behind, beside_first, children_of, children_under, cond, false, family, Forest, forest, first_index, first_key}
+use Rattle.slotmap_scene.proofs.Common.{first_or, has_node, in_front, inl, inr, is_key, key_at, key_at_live, keys_at, keys_without, later_indices, length}
+use Rattle.slotmap_scene.proofs.Common.{list_of, map-append, nat_eq, number_after, number_before, number_in_place, number_other, often, often_first}
+use Rattle.slotmap_scene.proofs.Common.{often_gone, often_joined, often_without, option_map, parent_at, parent_index, parent_of, placed, put_in_place}
+use Rattle.slotmap_scene.proofs.Common.{put_on, refl, same_at, same_number, same_or_other_number, set, siblings_of, some_is, subst, sym, times, true}
+use Rattle.slotmap_scene.proofs.Common.{with_children_of, with_list, with_parent, with_trees, without, without_child, without_number, ℕ, ◌∙◌}
 use Rattle.slotmap_scene.proofs.Families.{above_has, above_none, child_in, children_live, has_if, has_place, hung, hung_seen, indices_at, is_free, relisted, relisted_seen, seen_has}
 use Rattle.slotmap_scene.proofs.Climbs.{parent_there}
 use Rattle.slotmap_scene.proofs.Moved.{listed_once}

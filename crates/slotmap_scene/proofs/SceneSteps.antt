@@ -1,11 +1,13 @@
 -- What a call makes of the nodes of a scene, as a whole: nodes come or go, more places are made, a value is written, or all is copied.
 use Rattle.std.proofs.Common.{◌+◌, ◌∷◌, ◌≡◌, ◌≢◌, ◌≤◌, ◌⊎◌}
-use Rattle.slotmap_scene.proofs.Common.{AreCovered, Content, CoversMore, Err, HasKey, HaveIndices, HoldsMore, HoldsNodes, IfSome, IfSome_then, Inserts, IsCloneBy, IsCloneOf, IsContent, IsErr, IsIn}
-use Rattle.slotmap_scene.proofs.Common.{IsLive, IsNodeClone, IsOk, Key, Leaves, List, Lists, MakesRoom, Node, Nodes, None, Ok, Option, Result, Some, [], ap, arith, bound, bound_with, disjoint_still, space, used-written, with_capacity, child, children_of}
-use Rattle.slotmap_scene.proofs.Common.{clone_live, exact_keys, family, forest, found_at, found_live, get-insert_here, get-insert_other, get_or-set_other, get_or-set_same, indices_inserted, indices_still}
-use Rattle.slotmap_scene.proofs.Common.{inl, inr, inserted_fresh, is_some, key_cmp, keys, keys_at, keys_total, length-set, list_of, live-insert_still, memory, most, node_at, often}
-use Rattle.slotmap_scene.proofs.Common.{option_map, parent_at, parent_index, parent_of, refl, same_or_other, set, shown_content, shown_inserts, shown_leaves, shown_makes_room, subst, sym, times, true}
-use Rattle.slotmap_scene.proofs.Common.{used, with_value, ℕ, ◌∙◌}
+use Rattle.slotmap_scene.proofs.Common.{AreCovered, Content, CoversMore, Err, HasKey, HaveIndices, HoldsMore, HoldsNodes, IfSome, IfSome_then, Inserts}
+use Rattle.slotmap_scene.proofs.Common.{IsCloneBy, IsCloneOf, IsContent, IsErr, IsIn, IsLive, IsNodeClone, IsOk, Key, Leaves, List, Lists, MakesRoom}
+use Rattle.slotmap_scene.proofs.Common.{Node, Nodes, None, Ok, Option, Result, Some, [], ap, arith, bound, bound_with, disjoint_still, space}
+use Rattle.slotmap_scene.proofs.Common.{used-written, with_capacity, child, children_of, clone_live, exact_keys, family, forest, found_at, found_live}
+use Rattle.slotmap_scene.proofs.Common.{get-insert_here, get-insert_other, get_or-set_other, get_or-set_same, indices_inserted, indices_still, inl, inr}
+use Rattle.slotmap_scene.proofs.Common.{inserted_fresh, is_some, key_cmp, keys, keys_at, keys_total, length-set, list_of, live-insert_still, memory}
+use Rattle.slotmap_scene.proofs.Common.{most, node_at, often, option_map, parent_at, parent_index, parent_of, refl, same_or_other, set, shown_content}
+use Rattle.slotmap_scene.proofs.Common.{shown_inserts, shown_leaves, shown_makes_room, subst, sym, times, true, used, with_value, ℕ, ◌∙◌}
 use Rattle.slotmap_scene.proofs.Families.{above_still, changed_is, children_live, covers_less, get_alike, get_along, kept_along, kept_still, list_none, node_along, node_still, nowhere, parent_live}
 use Rattle.slotmap_scene.proofs.Families.{same_along, seen_get, seen_has, seen_len, written_found, written_has}
 use Rattle.slotmap_scene.proofs.Climbs.{get_removed}

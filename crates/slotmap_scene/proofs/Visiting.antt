@@ -1,7 +1,8 @@
 -- A walk that enters and leaves: what comes behind each visit.
 use Rattle.std.proofs.Common.{◌++◌, ◌+◌, ◌<◌, ◌∷◌, ◌≡◌, ◌≢◌, ◌≤◌}
-use Rattle.slotmap_scene.proofs.Common.{ClimbsTo, IsScene, IsWithin, Key, List, Nodes, None, Option, Some, StepsTo, [], ap, append-nil, append_assoc, arith, behind, children_of, children_under, first_or, has_node}
-use Rattle.slotmap_scene.proofs.Common.{cond, in_midst, is_itself, is_key, is_other, parent_of, refl, siblings_of, split_at, subst, suc, sym, times, times_first, one_itself, zero, ℕ, ◌∙◌}
+use Rattle.slotmap_scene.proofs.Common.{ClimbsTo, IsScene, IsWithin, Key, List, Nodes, None, Option, Some, StepsTo, [], ap, append-nil, append_assoc}
+use Rattle.slotmap_scene.proofs.Common.{arith, behind, children_of, children_under, first_or, has_node, cond, in_midst, is_itself, is_key, is_other}
+use Rattle.slotmap_scene.proofs.Common.{parent_of, refl, siblings_of, split_at, subst, suc, sym, times, times_first, one_itself, zero, ℕ, ◌∙◌}
 use Rattle.slotmap_scene.proofs.ChildLists.{behind_listed}
 use Rattle.slotmap_scene.proofs.Climbs.{has_parent, no_cycle, parent_there, short, steps_sum}
 use Rattle.slotmap_scene.proofs.Moved.{listed_few, listed_once, listed_parent}

@@ -1,8 +1,10 @@
 -- A walk through all that is below a node: from a key to its first child, or to the next sibling of the first node on the way up that has one.
 use Rattle.std.proofs.Common.{◌++◌, ◌+◌, ◌<◌, ◌∷◌, ◌≡◌, ◌≢◌, ◌≤◌}
-use Rattle.slotmap_scene.proofs.Common.{GoesDown, IfSome, IsScene, IsTop, IsWithin, Key, List, Nodes, None, Option, Some, StepsTo, WalksBelow, [], all_below, ap, append-nil, append_assoc, arith, behind}
-use Rattle.slotmap_scene.proofs.Common.{by_live, children_in, children_of, children_under, eq-zero-or-pos, first_or, has_node, in_midst, inl, inr, is_itself, is_other, keys_down, keys_from, lacks_node}
-use Rattle.slotmap_scene.proofs.Common.{none_of, one_itself, one_other, parent_in, parent_of, option_map, refl, same, same_or_other, siblings_of, split_at, subst, suc, sym, times, times_first, zero, ℕ, ◌∙◌}
+use Rattle.slotmap_scene.proofs.Common.{GoesDown, IfSome, IsScene, IsTop, IsWithin, Key, List, Nodes, None, Option, Some, StepsTo, WalksBelow}
+use Rattle.slotmap_scene.proofs.Common.{[], all_below, ap, append-nil, append_assoc, arith, behind, by_live, children_in, children_of}
+use Rattle.slotmap_scene.proofs.Common.{children_under, eq-zero-or-pos, first_or, has_node, in_midst, inl, inr, is_itself, is_other, keys_down}
+use Rattle.slotmap_scene.proofs.Common.{keys_from, lacks_node, none_of, one_itself, one_other, parent_in, parent_of, option_map, refl, same}
+use Rattle.slotmap_scene.proofs.Common.{same_or_other, siblings_of, split_at, subst, suc, sym, times, times_first, zero, ℕ, ◌∙◌}
 use Rattle.slotmap_scene.proofs.ChildLists.{behind_listed}
 use Rattle.slotmap_scene.proofs.Climbs.{Climbing, climbing_start, climbing_step, no_cycle, root_within}
 use Rattle.slotmap_scene.proofs.Descending.{below_all, below_once, below_only, below_order}

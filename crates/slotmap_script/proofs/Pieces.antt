@@ -1,5 +1,6 @@
 -- A list of slots, printed in pieces.
-use Rattle.std.proofs.Common.{◌≡◌, ◌+◌, ◌<◌, ◌≤◌, ◌⊎◌, ℤ, ℕ, zero, suc, List, [], ◌∷◌, ◌++◌, Option, Some, length, take, map, get_or, append_assoc, ap, sym, ◌∙◌, refl, arith, inl, inr}
+use Rattle.std.proofs.Common.{◌≡◌, ◌+◌, ◌<◌, ◌≤◌, ◌⊎◌, ℤ, ℕ, zero, suc, List, [], ◌∷◌, ◌++◌}
+use Rattle.std.proofs.Common.{Option, Some, length, take, map, get_or, append_assoc, ap, sym, ◌∙◌, refl, arith, inl, inr}
 use Rattle.std.specs.Prelude.{codes}
 use Rattle.std.specs.List.{join_with_byte}
 use Rattle.std.specs.Io.KnownBytes.{Appends}

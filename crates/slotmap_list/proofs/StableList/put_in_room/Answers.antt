@@ -1,5 +1,5 @@
-use Rattle.slotmap_list.proofs.Common.{◌∙◌, alone_spent, inserted_len, inserted_not_spent, keeps_spent_alone, spent_inserts, alone-inserts, alone-space, Lists, used_alone, list_of, elements_at, Sequence, is_place}
-use Rattle.slotmap_list.proofs.Common.{true, refl, ap, arith, Key}
+use Rattle.slotmap_list.proofs.Common.{◌∙◌, alone_spent, inserted_len, inserted_not_spent, keeps_spent_alone, spent_inserts, alone-inserts}
+use Rattle.slotmap_list.proofs.Common.{alone-space, Lists, used_alone, list_of, elements_at, Sequence, is_place, true, refl, ap, arith, Key}
 use Rattle.std.proofs.Common.{◌≡◌}
 use Rattle.slotmap_list.proofs.Keeps.{free_one, kept_put, none_yet, elements_put}
 use Rattle.slotmap_list.proofs.{Parts.place_there, Seen.value_at}

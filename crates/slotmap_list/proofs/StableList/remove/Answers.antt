@@ -1,5 +1,5 @@
-use Rattle.slotmap_list.proofs.Common.{true, Some, is_some, ◌∙◌, rules, keeps_spent_alone, leaves_by_removal, leaves_none, removed_spent, spent_alone, spent_removes, alone-leaves, alone-removes, alone-space, Lists, removed_here}
-use Rattle.slotmap_list.proofs.Common.{sym, ap}
+use Rattle.slotmap_list.proofs.Common.{true, Some, is_some, ◌∙◌, rules, keeps_spent_alone, leaves_by_removal, leaves_none, removed_spent}
+use Rattle.slotmap_list.proofs.Common.{spent_alone, spent_removes, alone-leaves, alone-removes, alone-space, Lists, removed_here, sym, ap}
 use Rattle.std.proofs.Common.{◌≡◌}
 use Rattle.slotmap_list.proofs.Keeps.{elements_taken, kept_taken}
 use Rattle.slotmap_list.proofs.Parts.{value_none}
