@@ -192,10 +192,15 @@ module _ {N E : Type 0} {end : SeenEdge E → Key} {nodes : Content N} {edges : 
   pub copied : (now : Lists) → now ≡ with_capacity links now.capacity → IsThreaded end new copies now
   copied now is = subst (IsThreaded end new copies) (sym is) (threaded_along t end new copies (with_capacity links now.capacity) (λ x. same _ _ (clones.live x)) (λ p. refl)
       (indices_still t.node_indices new (λ k live. sym (clone_live clones_node nodes new cloned k) ∙ live) (omega arith)) edge_copies
-      (omega (arith, t.owners)) (omega (arith, t.members)) (disjoint_still links _ t.disjoint (λ p. refl) (omega arith)) (λ x e there. clone_live clones_node nodes new cloned (end e) ∙ t.ends x e there))
+      (omega (arith, t.owners)) (omega (arith, t.members)) (disjoint_still links _ t.disjoint (λ p. refl) (omega arith))
+      (λ x e there. clone_live clones_node nodes new cloned (end e) ∙ t.ends x e there))
 
   pub copied_seen : (now : Lists) → now ≡ with_capacity links now.capacity → SameEdges (by_node nodes.live edges.live links) (by_node new.live copies.live now)
-  copied_seen now is k = grind (arith, is, same_seen t end new copies (with_capacity links now.capacity) (λ x. same _ _ (clones.live x)) (λ p. refl) edge_copies (clone_live clones_node nodes new cloned))
+  copied_seen now is k = grind (
+    arith,
+    is,
+    same_seen t end new copies (with_capacity links now.capacity) (λ x. same _ _ (clones.live x)) (λ p. refl) edge_copies (clone_live clones_node nodes new cloned),
+  )
 
 pub copied_from : {E : Type 0} (clones_value : E → E → Type 0) (o p : Option (SeenEdge E)) → IsCloneOf (clones_edge clones_value) o p → option_map from p ≡ option_map from o
 copied_from clones_value o p is = grind arith

@@ -17,7 +17,8 @@ use slotmap_links::Links;
 // The edge after this one in its list, of those that begin at a node or of those that end there.
 fn next_of<N, E: Drop>(edges: &Edges<E>, links: &Links, edge: EdgeKey) -> Option<EdgeKey>
     requires { (end : SeenEdge E → KeyOf) × (nodes : Content N) × IsThreaded end nodes edges.now links.now }
-    ensures { (end : SeenEdge E → KeyOf) (nodes : Content N) → IsThreaded end nodes edges.now links.now → result ≡ option_and_then (λ e. key_after edge (edges_at (by_node nodes.live edges.now.live links.now) (end e))) (map.get edges.now.live edge) }
+    ensures { (end : SeenEdge E → KeyOf) (nodes : Content N) → IsThreaded end nodes edges.now links.now → result ≡
+        option_and_then (λ e. key_after edge (edges_at (by_node nodes.live edges.now.live links.now) (end e))) (map.get edges.now.live edge) }
 {
     if !edges.contains_key(edge) {
         return None;

@@ -54,7 +54,8 @@ pub kept_none : AreKept [] []
 kept_none = kept_empty [] [] (omega arith) (λ p. get_or-eq_default [] no_ends {n = p} (omega arith))
 
 -- the user sees that one list changed
-module _ (ends : List Ends) (links : List Link) (p : ℕ) (ks : List ℕ) (ends' : List Ends) (links' : List Link) (there : p < length ends) (relists : Relists ends links p ks ends' links') (capacity : ℕ × ℕ) where
+module _ (ends : List Ends) (links : List Link) (p : ℕ) (ks : List ℕ) (ends' : List Ends) (links' : List Link)
+    (there : p < length ends) (relists : Relists ends links p ks ends' links') (capacity : ℕ × ℕ) where
   abbrev was : List (List ℕ)
   was = (lists_by ends links capacity).lists
 
@@ -152,7 +153,8 @@ resized : {X A B : Type 0} (xs : List X) (n len : ℕ) (d : X) → len ≡ lengt
 resized xs n len d len_is more P Q same p q (Ok x) now is = let grown = is ∙ (λ i. take_all n xs more i ++ replicate (n - len_is i) d) in (subst P (sym grown) p, subst Q (sym grown) q)
 resized xs n len d len_is more P Q same p q (Err e) now is = (subst P (sym is) same, tt)
 
-module _ {ends : List Ends} {links : List Link} (kept : AreKept ends links) {had : ℕ × ℕ} {s : Lists} (seen : lists_by ends links had ≡ s) (n len : ℕ) {A B : Type 0} (capacity : ℕ × ℕ) where
+module _ {ends : List Ends} {links : List Link} (kept : AreKept ends links) {had : ℕ × ℕ} {s : Lists}
+    (seen : lists_by ends links had ≡ s) (n len : ℕ) {A B : Type 0} (capacity : ℕ × ℕ) where
   pub resized_owners : {mid : List Ends} → mid ≡ ends → len ≡ length ends → length ends ≤ n → (r : Result A B) (now : List Ends)
       → now ≡ (if is_ok r then take n mid ++ replicate (n - len) no_ends else mid) → AreKept now links × OnOk r (lists_by now links capacity ≡ with_capacity (with_owners s n) capacity)
   resized_owners same long more r now is =

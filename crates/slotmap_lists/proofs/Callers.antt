@@ -103,7 +103,8 @@ module _ {T : Type 0} where
       later (Some n) at next none rest = let same : p ≡ suc n = (let is : p ≡ n + 1 = (cc) in omega arith) in
           rw same (rest n at ∙ sym (value_later k es (all_elements lists) none))
 
-      by : ((n : ℕ) → number_with k lists ≡ Some n → value_of k (elements_of n lists) ≡ value_under k lists) → (o : Option T) → value_of k es ≡ o → cond (is_some o) (Some 0) (option_map (λ n. n + 1) (number_with k lists)) ≡ Some p
+      by : ((n : ℕ) → number_with k lists ≡ Some n → value_of k (elements_of n lists) ≡ value_under k lists) → (o : Option T) → value_of k es ≡ o
+          → cond (is_some o) (Some 0) (option_map (λ n. n + 1) (number_with k lists)) ≡ Some p
           → value_of k (elements_of p (es ∷ lists)) ≡ value_under k (es ∷ lists)
       by rest (Some v) here at = let same : p ≡ 0 = (cc) in rw same (here ∙ sym (value_first k v es (all_elements lists) here))
       by rest None none at = later (number_with k lists) refl at none rest

@@ -21,7 +21,8 @@ module _ {T : Type 0} where
   few_two k (es ∷ lists) (suc p) (suc q) apart = omega (arith, times-append k es (all_elements lists), few_two k lists p q (λ e. apart (ap suc e)))
 
   -- where no key is in all lists twice, its value is the one in its list
-  value_here : (k : Key) (v : T) (lists : List (List (Key × T))) (p : ℕ) → key_times k (all_elements lists) ≤ 1 → value_of k (elements_of p lists) ≡ Some v → value_under k lists ≡ Some v
+  value_here : (k : Key) (v : T) (lists : List (List (Key × T))) (p : ℕ) → key_times k (all_elements lists) ≤ 1
+      → value_of k (elements_of p lists) ≡ Some v → value_under k lists ≡ Some v
   value_here k v [] p few found = absurd (cc)
   value_here k v (es ∷ lists) zero few found = value_first k v es (all_elements lists) found
   value_here k v (es ∷ lists) (suc p) few found =

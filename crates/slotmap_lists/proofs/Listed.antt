@@ -108,7 +108,9 @@ module _ {T : Type 0} {c : Content T} {homes : List ℕ} {s : Lists} (kept : Are
   no_key_twice = once_if (all_elements lists) few_in
 
   pub live_long : map.len c.live ≡ length (all_elements lists)
-  live_long = sym (len_alike (map.from_entries (all_elements lists)) c.live (λ q. ap is_some (map.get-from_entries keys_total (all_elements lists) q ∙ value_at q))) ∙ once_long (all_elements lists) no_key_twice
+  live_long =
+      sym (len_alike (map.from_entries (all_elements lists)) c.live (λ q. ap is_some (map.get-from_entries keys_total (all_elements lists) q ∙ value_at q)))
+      ∙ once_long (all_elements lists) no_key_twice
 
   -- which list a key is in
   pub list_is : (k : Key) → IsLive c k → list_with k lists ≡ elements_of (home k) lists
@@ -158,11 +160,15 @@ module _ {T : Type 0} {c : Content T} {homes : List ℕ} {s : Lists} (kept : Are
     module _ (k : Key) (live : IsLive c k) where
       pub after_number : (r : Option K) → option_map data_of r ≡ key_after k (list_with k lists) → IfSome r (λ key. number_with (data_of key) lists ≡ number_with k lists)
       after_number None is = tt
-      after_number (Some key) is = number_there (data_of key) (home k) (after_stands k (data_of key) (elements_of (home k) lists) (is ∙ ap (key_after k) (list_is k live))) ∙ sym (number_is k live)
+      after_number (Some key) is =
+          number_there (data_of key) (home k) (after_stands k (data_of key) (elements_of (home k) lists) (is ∙ ap (key_after k) (list_is k live)))
+          ∙ sym (number_is k live)
 
       pub before_number : (r : Option K) → option_map data_of r ≡ key_before None k (list_with k lists) → IfSome r (λ key. number_with (data_of key) lists ≡ number_with k lists)
       before_number None is = tt
-      before_number (Some key) is = number_there (data_of key) (home k) (before_stands k (data_of key) (elements_of (home k) lists) (is ∙ ap (key_before None k) (list_is k live))) ∙ sym (number_is k live)
+      before_number (Some key) is =
+          number_there (data_of key) (home k) (before_stands k (data_of key) (elements_of (home k) lists) (is ∙ ap (key_before None k) (list_is k live)))
+          ∙ sym (number_is k live)
 
   -- there is a link for the index of a live key, and a home
   module _ (k : Key) (live : IsLive c k) (i : ℕ) (same : i ≡ k.index) where

@@ -27,7 +27,8 @@ module _ {T : Type 0} where
   pub listed_new : (c : Content T) (homes : List ℕ) (lists n : ℕ) (capacity : ℕ × ℕ) → IsNew c → bound c < n → n ≤ length homes → lists < 2 ^ 32
       → AreListed c homes (opened lists n capacity)
   listed_new c homes lists n capacity new covered long few =
-      let none : (k : Key) → map.contains_key c.live k ≡ true → ⊥ = λ k live. (let h = ap (λ m. map.contains_key m k) new.live in let e = ap is_some (map.get-empty {X = T} key_cmp k) in cc) in
+      let none : (k : Key) → map.contains_key c.live k ≡ true → ⊥ = λ k live.
+      (let h = ap (λ m. map.contains_key m k) new.live in let e = ap is_some (map.get-empty {X = T} key_cmp k) in cc) in
       let no_index : (p i : ℕ) → times i (list_of (opened lists n capacity) p) ≡ 0 = λ p i. ap (times i) (empty_at (lists - 0) p) in
       record {
         indices = λ p. record { apart = λ a b of_a of_b at. absurd (none a of_a); live = λ i inside. absurd (omega (arith, no_index p i)) };
@@ -40,7 +41,8 @@ module _ {T : Type 0} where
 
   -- the same keys are live, and there may be more room
   pub listed_alike : {c : Content T} {homes : List ℕ} {s : Lists} → AreListed c homes s → (new : Content T) → ((q : Key) → map.contains_key new.live q ≡ map.contains_key c.live q)
-      → (now : List ℕ) → ((i : ℕ) → home_of now i ≡ home_of homes i) → (t : Lists) → t.lists ≡ s.lists → s.members ≤ t.members → t.members ≤ length now → bound new < t.members
+      → (now : List ℕ) → ((i : ℕ) → home_of now i ≡ home_of homes i)
+      → (t : Lists) → t.lists ≡ s.lists → s.members ≤ t.members → t.members ≤ length now → bound new < t.members
       → AreListed new now t
   listed_alike {s = s} kept new same now homes t lists more long covered =
       let list : (p : ℕ) → list_of t p ≡ list_of s p = λ p. ap (λ (l : List (List ℕ)). list_of (record s { lists = l }) p) lists in

@@ -24,7 +24,8 @@ module _ {T : Type 0} where
     written = with_value c k w
 
     pub listed_written : AreListed written homes s
-    listed_written = listed_alike kept written (same_live c written (alone-written c k w live)) homes (λ i. refl) s refl (omega arith) kept.homes_long (omega (arith, kept.covered, used-written c k w live))
+    listed_written = listed_alike kept written (same_live c written (alone-written c k w live)) homes (λ i. refl) s refl
+        (omega arith) kept.homes_long (omega (arith, kept.covered, used-written c k w live))
 
     own : (v : T) × (map.get c.live k ≡ Some v)
     own = some_is (map.get c.live k) live

@@ -118,7 +118,8 @@ impl<K: Key, T: Drop> StableLists<K, T> {
             { lists = if result then moved_ahead (K.data_of cursor) (K.data_of other) self.old.lists else self.old.lists } }
         ensures in_list { IsTrue result → number_with (K.data_of cursor) self.new.lists ≡ number_with (K.data_of other) self.old.lists }
         ensures prev { IsTrue result → key_before None (K.data_of other) (list_with (K.data_of other) self.new.lists) ≡ Some (K.data_of cursor) }
-        ensures others { IsTrue result → (q : ℕ) → number_with (K.data_of other) self.old.lists ≢ Some q → elements_of q self.new.lists ≡ without (K.data_of cursor) (elements_of q self.old.lists) }
+        ensures others { IsTrue result → (q : ℕ) → number_with (K.data_of other) self.old.lists ≢ Some q →
+            elements_of q self.new.lists ≡ without (K.data_of cursor) (elements_of q self.old.lists) }
         ensures values { (q : KeyOf) → value_under q self.new.lists ≡ value_under q self.old.lists }
         ensures as_many { length self.new.lists ≡ length self.old.lists }
     {
@@ -149,7 +150,8 @@ impl<K: Key, T: Drop> StableLists<K, T> {
             { lists = if result then moved_behind (K.data_of cursor) (K.data_of other) self.old.lists else self.old.lists } }
         ensures in_list { IsTrue result → number_with (K.data_of cursor) self.new.lists ≡ number_with (K.data_of other) self.old.lists }
         ensures next { IsTrue result → key_after (K.data_of other) (list_with (K.data_of other) self.new.lists) ≡ Some (K.data_of cursor) }
-        ensures others { IsTrue result → (q : ℕ) → number_with (K.data_of other) self.old.lists ≢ Some q → elements_of q self.new.lists ≡ without (K.data_of cursor) (elements_of q self.old.lists) }
+        ensures others { IsTrue result → (q : ℕ) → number_with (K.data_of other) self.old.lists ≢ Some q →
+            elements_of q self.new.lists ≡ without (K.data_of cursor) (elements_of q self.old.lists) }
         ensures values { (q : KeyOf) → value_under q self.new.lists ≡ value_under q self.old.lists }
         ensures as_many { length self.new.lists ≡ length self.old.lists }
     {

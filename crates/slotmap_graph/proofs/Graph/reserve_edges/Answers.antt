@@ -12,9 +12,11 @@ returns-in_err-cover_both-clause-into g c = rw (← c.self.view_is) (covered_see
 pub invariant_of-self-2 : goal.invariant_of-self-2
 invariant_of-self-2 g c = let m = c.reserve.ensures.makes_room in let was = c.in_ok-edge.ensures.value in record {
   out = (let cover = c.in_ok-cover_both.ensures.out_covers in
-      grown c.self.invariant.out c.self.inside.nodes c.reserve.new.self refl m.keeps.live (omega arith) (bound_grows m.keeps) c.cover_both.ensures.out (omega (arith, cover.0)) (omega (arith, cover.1)));
+      grown c.self.invariant.out c.self.inside.nodes c.reserve.new.self refl m.keeps.live (omega arith) (bound_grows m.keeps)
+      c.cover_both.ensures.out (omega (arith, cover.0)) (omega (arith, cover.1)));
   into = (let cover = c.in_ok-cover_both.ensures.into_covers in
-      grown c.self.invariant.into c.self.inside.nodes c.reserve.new.self refl m.keeps.live (omega arith) (bound_grows m.keeps) c.cover_both.ensures.into (omega (arith, cover.0)) (omega (arith, cover.1)));
+      grown c.self.invariant.into c.self.inside.nodes c.reserve.new.self refl m.keeps.live (omega arith) (bound_grows m.keeps)
+      c.cover_both.ensures.into (omega (arith, cover.0)) (omega (arith, cover.1)));
 }
 
 pub returns-clause-out : goal.returns-clause-out

@@ -15,9 +15,11 @@ invariant_of-self g c = record { out = covered_threaded c.self.invariant.out c.c
 pub invariant_of-self-2 : goal.invariant_of-self-2
 invariant_of-self-2 g c = let m = c.reserve.ensures.makes_room in let was = c.in_ok-node.ensures.value in record {
   out = (let cover = c.in_ok-cover_both.ensures.out_covers in
-      grown c.self.invariant.out c.reserve.new.self c.self.inside.edges m.keeps.live refl (bound_grows m.keeps) (omega arith) c.cover_both.ensures.out (omega (arith, cover.0)) (omega (arith, cover.1)));
+      grown c.self.invariant.out c.reserve.new.self c.self.inside.edges m.keeps.live refl (bound_grows m.keeps) (omega arith)
+      c.cover_both.ensures.out (omega (arith, cover.0)) (omega (arith, cover.1)));
   into = (let cover = c.in_ok-cover_both.ensures.into_covers in
-      grown c.self.invariant.into c.reserve.new.self c.self.inside.edges m.keeps.live refl (bound_grows m.keeps) (omega arith) c.cover_both.ensures.into (omega (arith, cover.0)) (omega (arith, cover.1)));
+      grown c.self.invariant.into c.reserve.new.self c.self.inside.edges m.keeps.live refl (bound_grows m.keeps) (omega arith)
+      c.cover_both.ensures.into (omega (arith, cover.0)) (omega (arith, cover.1)));
 }
 
 pub returns-clause-out : goal.returns-clause-out

@@ -36,7 +36,9 @@ returns g c = record {
   cursors = rw (← c.self.view_is) (alone-inserts _ _ _ _ c.insert_reserved-key.ensures.inserts);
   used = (let made = c.insert_reserved-key.ensures in rw (← c.self.view_is, used_alone c.self.inside.values, used_alone c.insert_reserved-key.new.self)
       (omega (arith, inserted_len true _ _ c.args.value _ made.valid.before made.inserts, ap set.len made.inserts.detached, ap set.len made.inserts.retired)));
-  capacity = rw (← c.self.view_is)
-      (λ i. (alone-space c.self.inside.values c.insert_reserved-key.new.self c.insert_reserved-key.ensures.bound c.insert_reserved-key.ensures.valid.capacity i, ap (λ (s : Lists). s.capacity) c.put_index.ensures i));
+  capacity = (let made = c.insert_reserved-key.ensures in rw (← c.self.view_is) (λ i. (
+    alone-space c.self.inside.values c.insert_reserved-key.new.self made.bound made.valid.capacity i,
+    ap (λ (s : Lists). s.capacity) c.put_index.ensures i,
+  )));
   gone = rw (← c.self.view_is) (keeps_spent_alone _ _ (spent_inserts _ _ true c.insert_reserved-key.ensures.valid.before _ _ c.insert_reserved-key.ensures.inserts));
 }

@@ -49,7 +49,10 @@ returns g c =
       for_good = spent_alone _ k (removed_spent _ _ true before _ live removes);
       gone = rw (← c.self.view_is) (keeps_spent_alone _ _ (spent_removes _ _ true before _ live removes));
       leaves = rw (← c.self.view_is) (alone-leaves _ _ (leaves_by_removal true _ before _ live _ removes));
-      capacity = rw (← c.self.view_is) (λ i. (alone-space c.self.inside.values c.remove.new.self c.remove.ensures.bound c.remove.ensures.valid.capacity i, ap (λ (s : Lists). s.capacity) c.take_out.ensures i));
+      capacity = rw (← c.self.view_is) (λ i. (
+        alone-space c.self.inside.values c.remove.new.self c.remove.ensures.bound c.remove.ensures.valid.capacity i,
+        ap (λ (s : Lists). s.capacity) c.take_out.ensures i,
+      ));
       stale = search rules;
     }
 

@@ -8,15 +8,16 @@ loop-init g c = clearing_start c.args.self.now c.args.list
 
 pub loop-preserved : goal.loop-preserved
 loop-preserved g c = let popped = c.pop_front.ensures in
-    clearing_step g.K.Key.data_of _ _ _ _ c.loop.invariant c.pop_front.result popped.front popped.others popped.values popped.as_many popped.for_good popped.gone popped.leaves popped.capacity popped.empty
+    clearing_step g.K.Key.data_of _ _ _ _ c.loop.invariant c.pop_front.result popped.front popped.others popped.values
+    popped.as_many popped.for_good popped.gone popped.leaves popped.capacity popped.empty
 
 pub returns : goal.returns
 returns g c =
     let popped = c.pop_front.ensures in
     let s = c.pop_front.new.self in
     let none : elements_of c.args.list s.lists ≡ [] = (search rules) in
-    let all = clearing_step g.K.Key.data_of _ _ _ s c.loop.invariant c.pop_front.result popped.front popped.others popped.values popped.as_many popped.for_good popped.gone popped.leaves
-    popped.capacity popped.empty in
+    let all = clearing_step g.K.Key.data_of _ _ _ s c.loop.invariant c.pop_front.result popped.front popped.others popped.values
+    popped.as_many popped.for_good popped.gone popped.leaves popped.capacity popped.empty in
     record {
       empty = none;
       others = all.others;

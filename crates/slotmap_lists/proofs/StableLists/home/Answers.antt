@@ -6,7 +6,8 @@ use Rattle.std.specs.FinMap as map
 use Rattle.slotmap_lists.proofs.StableLists.home.Goals as goal
 
 alive : (g : _) (c : After-idx g) → IsLive c.self.inside.values (g.K.Key.data_of c.args.cursor)
-alive g c = live_if c.self.invariant (g.K.Key.data_of c.args.cursor) (ap (λ (s : Sequences g.row.T.Denot). is_some (value_under (g.K.Key.data_of c.args.cursor) s.lists)) c.self.view_is ∙ c.requires)
+alive g c = let k = g.K.Key.data_of c.args.cursor in
+    live_if c.self.invariant k (ap (λ (s : Sequences g.row.T.Denot). is_some (value_under k s.lists)) c.self.view_is ∙ c.requires)
 
 index : (g : _) (c : After-idx g) → c.idx.result ≡ (g.K.Key.data_of c.args.cursor).index
 index g c = c.idx.ensures.value ∙ ap (λ (k : Key). k.index) c.data.ensures.value

@@ -11,7 +11,8 @@ some g c = ap (λ (s : Sequences g.row.T.Denot). is_some (value_under (g.K.Key.d
 there : (g : _) (c : After-home_at-home g) → c.args.list < length (lists_at c.self.inside.values.live c.self.inside.links)
 there g c = omega (arith, c.requires.list, ap (λ (s : Sequences g.row.T.Denot). length s.lists) c.self.view_is)
 
-can : (g : _) (c : After-home_at-home g) → is_spot c.args.place (elements_of c.args.list (without_key (g.K.Key.data_of c.args.cursor) (lists_at c.self.inside.values.live c.self.inside.links))) ≡ true
+can : (g : _) (c : After-home_at-home g)
+    → is_spot c.args.place (elements_of c.args.list (without_key (g.K.Key.data_of c.args.cursor) (lists_at c.self.inside.values.live c.self.inside.links))) ≡ true
 can g c = ap (λ (s : Sequences g.row.T.Denot). is_spot c.args.place (elements_of c.args.list (without_key (g.K.Key.data_of c.args.cursor) s.lists))) c.self.view_is ∙ c.requires.place
 
 index : (g : _) (c : After-home_at-home g) → c.idx-index.result ≡ (g.K.Key.data_of c.args.cursor).index

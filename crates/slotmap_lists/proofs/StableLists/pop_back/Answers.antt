@@ -19,8 +19,9 @@ returns-clause-back g c = let k = g.K.Key.data_of c.in_ok-cursor.cursor in
     (sym (rw c.in_ok-value.was at c.remove.ensures.value)) ∙ ap (λ l. elements_of c.args.list l ++ (k, c.in_ok-value.value) ∷ []) (sym c.remove.ensures.removed)
 
 pub returns-clause-others : goal.returns-clause-others
-returns-clause-others g c q apart = ap (elements_of q) c.remove.ensures.removed
-    ∙ others_back c.args.self.now.lists c.len.ensures.once c.args.list (g.K.Key.data_of c.in_ok-cursor.cursor) (sym c.last.ensures.value ∙ ap (option_map g.K.Key.data_of) c.in_ok-cursor.was) q apart
+returns-clause-others g c q apart = let is = sym c.last.ensures.value ∙ ap (option_map g.K.Key.data_of) c.in_ok-cursor.was in
+    ap (elements_of q) c.remove.ensures.removed
+    ∙ others_back c.args.self.now.lists c.len.ensures.once c.args.list (g.K.Key.data_of c.in_ok-cursor.cursor) is q apart
 
 pub returns-in_err-value-clause-others : goal.returns-in_err-value-clause-others
 returns-in_err-value-clause-others g c = absurd (last_there c.args.self.now.lists c.len.ensures.once c.args.list (g.K.Key.data_of c.in_ok-cursor.cursor)
