@@ -31,7 +31,8 @@ module _ {E : Type 0} (edges : Edges E) where
   leads_to_each a b (ks ∷ ls ∷ kss) few each a_there b_there = absurd (omega (arith, few))
 
   -- where each leads to each other one, there is one component at most
-  pub one_at_most : (kss : List (List Key)) → All (IsComponent edges) kss → LeadOnward edges kss → ((x y : Key) → 0 < times_in x kss → 0 < times_in y kss → Leads edges x y) → length kss ≤ 1
+  pub one_at_most : (kss : List (List Key)) → All (IsComponent edges) kss → LeadOnward edges kss
+      → ((x y : Key) → 0 < times_in x kss → 0 < times_in y kss → Leads edges x y) → length kss ≤ 1
   one_at_most [] each onward all = omega arith
   one_at_most (ks ∷ []) each onward all = omega arith
   one_at_most ([] ∷ ls ∷ kss) each onward all = absurd (omega (arith, (All-head (IsComponent edges) [] (ls ∷ kss) each).some))

@@ -58,7 +58,8 @@ module _ {N E : Type 0} (s : Seen N E) where
       there : 0 < times k (edges_at s.out x)
       there = next_inside k (edges_at s.out x) is.next
 
-      step : (rest : List Key) × (keys_from k (edges_at s.out x) ≡ k ∷ rest) × (key_after k (edges_at s.out x) ≡ first_or rest None) × (ahead (key_after k (edges_at s.out x)) (edges_at s.out x) ≡ rest)
+      step : (rest : List Key) × (keys_from k (edges_at s.out x) ≡ k ∷ rest) × (key_after k (edges_at s.out x) ≡ first_or rest None)
+          × (ahead (key_after k (edges_at s.out x)) (edges_at s.out x) ≡ rest)
       step = step_ahead k (edges_at s.out x) (once_out x) there
 
       pub one_less : length (edges_left s.out (x, Some k)) ≡ 1 + length (edges_left s.out (x, key_after k (edges_at s.out x)))
@@ -288,9 +289,6 @@ module _ {N E : Type 0} (s : Seen N E) (joined : IsJoined s) (well : IsContent t
       last = rw (append_assoc left (x ∷ []) (open_nodes opened)) v.last;
     }
 
-    pub work_ended : work_left s found opened < work_left s found ((x, None) ∷ opened)
-    work_ended = omega arith
-
 -- no node is open any more
 module _ {N E : Type 0} (s : Seen N E) (found : Found) (left : List Key) (deep : Deepening s found [] left) where
   pub left_found : (x : Key) → times x left ≡ (if contains_key found x then 1 else 0)
@@ -350,35 +348,44 @@ module _ {K : Type 0} (data_of : K → Key) where
 
   -- by what the calls of a step leave
   module _ {N E : Type 0} (s : Seen N E) (joined : IsJoined s) (well : IsContent true s.nodes) (found : Found) (opened : List (Open K)) (left : List K) (at : Open K) where
+    abbrev here : Key
+    here = data_of at.node
+
+    abbrev behind : List OpenNode
+    behind = opened_by data_of opened
+
+    abbrev done : List Key
+    done = list_map data_of left
+
     abbrev IsVisiting : Found → Key → Type 0
-    IsVisiting before start = SearchesFrom s before start found (open_node data_of at ∷ opened_by data_of opened) (list_map data_of left)
+    IsVisiting before start = SearchesFrom s before start found (open_node data_of at ∷ behind) done
 
     module _ (none : at.next ≡ None) where
-      pub leaves_node : (now : List K) → now ≡ left ++ at.node ∷ [] → (before : Found) (start : Key) → IsVisiting before start → SearchesFrom s before start found (opened_by data_of opened) (list_map data_of now)
+      pub leaves_node : (now : List K) → now ≡ left ++ at.node ∷ [] → (before : Found) (start : Key) → IsVisiting before start
+          → SearchesFrom s before start found behind (list_map data_of now)
       leaves_node now is before start v = rw (ap (list_map data_of) is ∙ map-append data_of left (at.node ∷ []))
-          (visiting_left s joined well before start found (data_of at.node) (opened_by data_of opened) (list_map data_of left) (rw none at v))
+          (visiting_left s joined well before start found here behind done (rw none at v))
 
-      pub leaves_less : work_left s found (opened_by data_of opened) < work_left s found (open_node data_of at ∷ opened_by data_of opened)
-      leaves_less = omega arith
-
-    module _ (k : Key) (some : at.next ≡ Some k) (after : Option Key) (along : (node : Key) → 0 < times k (edges_at s.out node) → after ≡ key_after k (edges_at s.out node)) (mid : List (Open K))
+    module _ (k : Key) (some : at.next ≡ Some k) (after : Option Key)
+        (along : (node : Key) → 0 < times k (edges_at s.out node) → after ≡ key_after k (edges_at s.out node)) (mid : List (Open K))
         (stays : mid ≡ opened ++ record { node = at.node; next = after } ∷ []) (before : Found) (start : Key) (v : IsVisiting before start) where
-      this : SearchesFrom s before start found ((data_of at.node, Some k) ∷ opened_by data_of opened) (list_map data_of left)
+      this : SearchesFrom s before start found ((here, Some k) ∷ behind) done
       this = rw some at v
 
-      pub edge_here : (e : SeenEdge E) × (map.get s.edges.live k ≡ Some e) × (e.from ≡ data_of at.node)
-      edge_here = next_edge s joined well before start found (data_of at.node) k (opened_by data_of opened) (list_map data_of left) this
+      pub edge_here : (e : SeenEdge E) × (map.get s.edges.live k ≡ Some e) × (e.from ≡ here)
+      edge_here = next_edge s joined well before start found here k behind done this
 
-      mid_is : opened_by data_of mid ≡ (data_of at.node, key_after k (edges_at s.out (data_of at.node))) ∷ opened_by data_of opened
+      mid_is : opened_by data_of mid ≡ (here, key_after k (edges_at s.out here)) ∷ behind
       mid_is = ap (opened_by data_of) stays ∙ opened_pushed opened (record { node = at.node; next = after })
-          ∙ ap (λ o. (data_of at.node, o) ∷ opened_by data_of opened) (along (data_of at.node) (next_listed s joined well before start found (data_of at.node) k (opened_by data_of opened) (list_map data_of left) this))
+          ∙ ap (λ o. (here, o) ∷ behind) (along here (next_listed s joined well before start found here k behind done this))
 
-      module _ (a to : Key) (ends_there : Some (a, to) ≡ option_map ends (map.get s.edges.live k)) (new : Found) (opened' : List OpenNode) (enters : Enters s found (opened_by data_of mid) to new opened') where
-        pub follows_edge : SearchesFrom s before start new opened' (list_map data_of left)
-        follows_edge = visiting_followed s joined well before start found (data_of at.node) k (opened_by data_of opened) (list_map data_of left) this new opened' to a ends_there (rw mid_is at enters)
+      module _ (a to : Key) (ends_there : Some (a, to) ≡ option_map ends (map.get s.edges.live k)) (new : Found) (opened' : List OpenNode)
+          (enters : Enters s found (opened_by data_of mid) to new opened') where
+        pub follows_edge : SearchesFrom s before start new opened' done
+        follows_edge = visiting_followed s joined well before start found here k behind done this new opened' to a ends_there (rw mid_is at enters)
 
-        pub follows_less : work_left s new opened' < work_left s found (open_node data_of at ∷ opened_by data_of opened)
-        follows_less = rw some (work_followed s joined well before start found (data_of at.node) k (opened_by data_of opened) (list_map data_of left) this new opened' to a ends_there (rw mid_is at enters))
+        pub follows_less : work_left s new opened' < work_left s found (open_node data_of at ∷ behind)
+        follows_less = rw some (work_followed s joined well before start found here k behind done this new opened' to a ends_there (rw mid_is at enters))
 
 -- one more node was visited
 pub visited_more : {N E : Type 0} (s : Seen N E) (before found : Found) (y : Key) (left : List Key) → SearchesFrom s before y found [] left → (done : List Key)

@@ -94,7 +94,8 @@ module _ (passed ahead rest all : List Key) (k : Key) (so_far : passed ++ ahead 
   walked_on = append_assoc passed (k ∷ []) rest ∙ ap (λ l. passed ++ l) (sym next) ∙ so_far
 
 -- an error is refused where `TooLong` is
-pub refuses : {E : Type 0} (edges : Edges E) (costs : Pairs ℕ) (most : ℕ) (start : Key) (e : PathError) → (e ≡ TooLong → RefusesPaths edges costs most start TooLong) → RefusesPaths edges costs most start e
+pub refuses : {E : Type 0} (edges : Edges E) (costs : Pairs ℕ) (most : ℕ) (start : Key) (e : PathError)
+    → (e ≡ TooLong → RefusesPaths edges costs most start TooLong) → RefusesPaths edges costs most start e
 refuses edges costs most start TooLong so = so refl
 refuses edges costs most start Memory so = tt
 
@@ -242,7 +243,8 @@ module _ {K : Type 0} (data_of : K → Key) {N E : Type 0} (s : Seen N E) (costs
           inr (waits.0, t + cost, waits.1, waits.3, waits.5 ∙ sym one.0, omega (arith, one.1))))
         where
           pushed : Searching data_of s.edges.live costs start settled new left
-          pushed = settling_pushed searching same_or_other (λ q. job_of q new) waits.0 (t + cost) waits.1 waits.2 waits.3 waits.4 (rw (waits.5, waits.6) traced_to) (λ b r is. omega (arith, latest.others b r is))
+          pushed = settling_pushed searching same_or_other (λ q. job_of q new) waits.0 (t + cost) waits.1 waits.2 waits.3 waits.4
+              (rw (waits.5, waits.6) traced_to) (λ b r is. omega (arith, latest.others b r is))
 
       pub passed_offer : (new : Waiting (Candidate K)) → Offers data_of settled waiting new to (t + cost) k → Searching data_of s.edges.live costs start settled new rest
       passed_offer new (inl had) = rw had.1 (passed_settled had.0)

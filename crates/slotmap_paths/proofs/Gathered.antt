@@ -22,7 +22,8 @@ use Rattle.slotmap_paths.proofs.CutLists.{behind_gone, behind_more}
 
 -- the nodes where the edges of a list begin
 module _ {E : Type 0} (edges : Edges E) where
-  begin_there : (b : Key) (ks : List Key) → ((k : Key) → 0 < times k ks → (e : SeenEdge E) × (map.get edges k ≡ Some e) × (e.to ≡ b)) → (a : Key) → 0 < times a (ends_along from edges ks) → HasEdge edges a b
+  begin_there : (b : Key) (ks : List Key) → ((k : Key) → 0 < times k ks → (e : SeenEdge E) × (map.get edges k ≡ Some e) × (e.to ≡ b))
+      → (a : Key) → 0 < times a (ends_along from edges ks) → HasEdge edges a b
   begin_there b [] each a more = absurd (omega (arith, more))
   begin_there b (k ∷ ks) each a more =
       let edge = each k (omega (arith, times_first k k ks, one_itself k)) in
@@ -36,7 +37,8 @@ module _ {E : Type 0} (edges : Edges E) where
   there_begin : (ks : List Key) (k : Key) (e : SeenEdge E) → 0 < times k ks → map.get edges k ≡ Some e → 0 < times e.from (ends_along from edges ks)
   there_begin [] k e more there = absurd (omega (arith, more))
   there_begin (q ∷ ks) k e more there = elim (same_or_other q k) [
-    | inl is ↦ (let first : ends_along from edges (q ∷ ks) ≡ e.from ∷ ends_along from edges ks = ap (λ o. cons_option (option_map from o) (ends_along from edges ks)) (ap (map.get edges) is ∙ there) in
+    | inl is ↦ (let first : ends_along from edges (q ∷ ks) ≡ e.from ∷ ends_along from edges ks =
+        ap (λ o. cons_option (option_map from o) (ends_along from edges ks)) (ap (map.get edges) is ∙ there) in
         omega (arith, ap (times e.from) first, times_first e.from e.from (ends_along from edges ks), one_itself e.from))
     | inr other ↦ (let rest = there_begin ks k e (omega (arith, more, times_first k q ks, one_other q k other)) there in
         by (map.get edges q) (ends_along from edges ks) e.from rest)
@@ -130,7 +132,8 @@ module _ {N E : Type 0} (s : Seen N E) (well : IsContent true s.nodes) (before :
   pub extends_start : (b : Key) (marks : Found) (found : List Key) → AreAdded before marks found → IsBeside s.nodes marks → FindsMore s before marks found b marks found
   extends_start b marks found added live = record { added = added; live = live; keys_behind = ([], sym (append-nil found)); kept = λ x had. had; joined = λ x more. inl more }
 
-  pub extends_step : (b : Key) (marks : Found) (found : List Key) (mid : Found) (half : List Key) → FindsMore s before marks found b mid half → (y : Key) → IsLive s.nodes y → HasEdge s.edges.live y b
+  pub extends_step : (b : Key) (marks : Found) (found : List Key) (mid : Found) (half : List Key) → FindsMore s before marks found b mid half
+      → (y : Key) → IsLive s.nodes y → HasEdge s.edges.live y b
       → (new : Found) (now : List Key) → MarksOne mid half y new now → FindsMore s before marks found b new now
   extends_step b marks found mid half so_far y live join new now adds = record {
     added = adds_added mid half so_far.added so_far.live y live new now adds;
@@ -145,8 +148,8 @@ module _ {N E : Type 0} (s : Seen N E) (well : IsContent true s.nodes) (before :
   }
 
   -- the root is marked
-  pub gathering_start : (root : Key) → IsBeside s.nodes before → contains_key before root ≡ false → IsLive s.nodes root → (marks : Found) (found : List Key) → MarksOne before [] root marks found
-      → Gathering s before root marks found 0
+  pub gathering_start : (root : Key) → IsBeside s.nodes before → contains_key before root ≡ false → IsLive s.nodes root
+      → (marks : Found) (found : List Key) → MarksOne before [] root marks found → Gathering s before root marks found 0
   gathering_start root beside unmarked live marks found (inl was) = absurd (let both = sym was.0 ∙ unmarked in cc)
   gathering_start root beside unmarked live marks found (inr adds) =
       let start : AreAdded before before [] = λ x. omega arith in
@@ -180,7 +183,15 @@ module _ {N E : Type 0} (s : Seen N E) (well : IsContent true s.nodes) (before :
         longer = ap (drop (at + 1)) more.keys_behind.1 ∙ drop-append-le (at + 1) found more.keys_behind.0 (omega (arith, below))
 
         by : (x : Key) → 0 < times x now → (n : ℕ) → times x found ≡ n → (0 < times x (drop (at + 1) now)) ⊎ HasPrevious s.edges.live x new
-        by x now_there zero none = inl (omega (arith, now_there, none, ap (times x) more.keys_behind.1, times_joined x found more.keys_behind.0, ap (times x) longer, times_joined x (drop (at + 1) found) more.keys_behind.0))
+        by x now_there zero none = inl (omega (
+          arith,
+          now_there,
+          none,
+          ap (times x) more.keys_behind.1,
+          times_joined x found more.keys_behind.0,
+          ap (times x) longer,
+          times_joined x (drop (at + 1) found) more.keys_behind.0,
+        ))
         by x now_there (suc n) some = elim (so_far.passed x (omega (arith, some))) [
           | inl ahead ↦ elim (here_or_behind found at a x below is ahead) [
             | inl one ↦ inr (rw one previous)
@@ -214,7 +225,8 @@ some_there x [] more = absurd (omega (arith, more))
 some_there x (k ∷ ks) more = omega arith
 
 module _ {E : Type 0} (edges : Edges E) where
-  onward_pushed : (kss : List (List Key)) (ks : List Key) → LeadOnward edges kss → ((a b : Key) → 0 < times_in a kss → 0 < times b ks → Leads edges b a → ⊥) → LeadOnward edges (kss ++ ks ∷ [])
+  onward_pushed : (kss : List (List Key)) (ks : List Key) → LeadOnward edges kss
+      → ((a b : Key) → 0 < times_in a kss → 0 < times b ks → Leads edges b a → ⊥) → LeadOnward edges (kss ++ ks ∷ [])
   onward_pushed [] ks onward none = ((λ a b there more way. absurd (omega (arith, more))), tt)
   onward_pushed (qs ∷ kss) ks onward none = (
     (λ a b there more way. by a b there (times_in b kss) refl more way),

@@ -32,7 +32,8 @@ module _ {E : Type 0} (edges : Edges E) (left opened : List Key) where
 
   module _ (order : OrdersSoFar edges left opened) (x : Key) where
     -- a node is opened that wasn't found before
-    pub order_opened : times x left ≡ 0 → ((a : Key) → 0 < times a left → (n : ℕ) (b : Key) → LeadsBy edges n a b → (0 < times b left) ⊎ ((c : Key) × (0 < times c opened) × Leads edges a c))
+    pub order_opened : times x left ≡ 0
+        → ((a : Key) → 0 < times a left → (n : ℕ) (b : Key) → LeadsBy edges n a b → (0 < times b left) ⊎ ((c : Key) × (0 < times c opened) × Leads edges a c))
         → OrdersSoFar edges left (x ∷ opened)
     order_opened none out a b there after way = elim (same_or_other b x) [
       | inl is ↦ elim (out a there way.0 b way.1) [

@@ -31,11 +31,13 @@ loop-at-preserved g c =
     let is : node ≡ get_or keys c.loop-at.at node = ap g.K.Key.data_of c.index-node.ensures
     ∙ sym (get_or-map g.K.Key.data_of c.loop-at.found.items c.loop-at.at c.index-node.result.now node short) in
     gathering_step c.args.graph.now c.requires.valid before (g.K.Key.data_of c.args.root) c.loop-at.marks.pairs keys c.loop-at.at c.loop-at.invariant node below is c.find_sources.new.marks.pairs _
-    (rw c.in_ok-find_sources.was at (c.find_sources.ensures.extends before c.loop-at.invariant.added)) (rw c.in_ok-find_sources.was at (c.find_sources.ensures.previous before c.loop-at.invariant.added))
+    (rw c.in_ok-find_sources.was at (c.find_sources.ensures.extends before c.loop-at.invariant.added))
+    (rw c.in_ok-find_sources.was at (c.find_sources.ensures.previous before c.loop-at.invariant.added))
     (times_there keys c.loop-at.at node below is)
 
 pub returns : goal.returns
 returns g c =
     let keys = list_map g.K.Key.data_of c.loop-at.found.items in
     let long : length keys ≡ length c.loop-at.found.items = length-map c.loop-at.found.items g.K.Key.data_of in
-    gathering_end c.args.graph.now c.requires.valid c.args.marks.now.pairs (g.K.Key.data_of c.args.root) c.loop-at.marks.pairs keys c.loop-at.at c.loop-at.invariant (omega (arith, c.loop-at.found.ok.0, long))
+    gathering_end c.args.graph.now c.requires.valid c.args.marks.now.pairs (g.K.Key.data_of c.args.root) c.loop-at.marks.pairs keys c.loop-at.at
+    c.loop-at.invariant (omega (arith, c.loop-at.found.ok.0, long))

@@ -31,7 +31,8 @@ loop-source-preserved g c =
       extends = λ before added. extends_step c.args.graph.now c.requires.valid before node c.args.marks.now.pairs _ c.loop-source.marks.pairs _ (i.extends before added) y live join
           c.find.new.marks.pairs _ c.in_ok-find.ensures;
       marked = λ before added. (let so_far = i.extends before added in
-          rw map-append (adds_marked c.args.graph.now c.requires.valid before c.loop-source.marks.pairs _ so_far.added so_far.live y live c.find.new.marks.pairs _ c.in_ok-find.ensures done (i.marked before added)));
+          rw map-append (adds_marked c.args.graph.now c.requires.valid before c.loop-source.marks.pairs _ so_far.added so_far.live y live
+          c.find.new.marks.pairs _ c.in_ok-find.ensures done (i.marked before added)));
     }
 
 pub returns-clause-previous : goal.returns-clause-previous

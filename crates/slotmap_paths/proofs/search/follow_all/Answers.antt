@@ -37,7 +37,9 @@ returns-in_err-follow-clause-err g c start most few latest before =
     let there = next_listed c.loop-edge.yielded c.loop-edge.edge-iterator c.next.new.self _ c.in-Some.edge i.walked next in
     let refused = if_err (λ e. e ≡ TooLong → GoesBeyond c.args.graph.now.edges.live c.args.costs.now.pairs c.args.distance c.in-Some.edge)
     (RefusesPaths c.args.graph.now.edges.live c.args.costs.now.pairs most start)
-    (λ e is. refuses c.args.graph.now.edges.live c.args.costs.now.pairs most start e (λ too. beyond g.K.Key.data_of c.args.graph.now c.args.costs.now.pairs start c.args.search.now.settled.pairs
-    c.loop-edge.search.waiting.waiting node c.args.distance latest c.in-Some.edge c.next.new.self c.loop-edge.edge-iterator next (i.searching start latest before) (edges_at c.args.graph.now.out node) lists there (is too) most few))
+    (λ e is. refuses c.args.graph.now.edges.live c.args.costs.now.pairs most start e (λ too.
+    beyond g.K.Key.data_of c.args.graph.now c.args.costs.now.pairs start c.args.search.now.settled.pairs c.loop-edge.search.waiting.waiting node
+    c.args.distance latest c.in-Some.edge c.next.new.self c.loop-edge.edge-iterator next (i.searching start latest before)
+    (edges_at c.args.graph.now.out node) lists there (is too) most few))
     c.follow.result c.follow.ensures.err in
     search (rules, refused)

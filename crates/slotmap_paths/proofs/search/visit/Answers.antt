@@ -3,7 +3,8 @@ use Rattle.slotmap_paths.proofs.EdgeSteps.{on_ok, visit_few, visit_latest, visit
 use Rattle.slotmap_paths.proofs.search.visit.Goals as goal
 
 pub returns-then-contains_key-clause-searching : goal.returns-then-contains_key-clause-searching
-returns-then-contains_key-clause-searching g c start v = visit_skipped g.K.Key.data_of c.args.graph.now c.args.costs.now.pairs start _ _ _ _ v (sym c.contains_key.ensures.value ∙ c.if-contains_key.true)
+returns-then-contains_key-clause-searching g c start v =
+    visit_skipped g.K.Key.data_of c.args.graph.now c.args.costs.now.pairs start _ _ _ _ v (sym c.contains_key.ensures.value ∙ c.if-contains_key.true)
 
 pub returns-clause-searching : goal.returns-clause-searching
 returns-clause-searching g c start v =
@@ -16,7 +17,8 @@ pub returns-clause-less : goal.returns-clause-less
 returns-clause-less g c start v =
     let unsettled = sym c.contains_key.ensures.value ∙ c.if-contains_key.false in
     let puts = c.in_ok-settle.ensures.settles in
-    rw c.follow_all.ensures.settled (on_ok _ _ (λ few. visit_less g.K.Key.data_of c.args.graph.now c.args.costs.now.pairs start _ _ _ _ v unsettled _ _ puts refl refl _ (rw c.settle.ensures.waiting at few))
+    rw c.follow_all.ensures.settled (on_ok _ _ (λ few.
+    visit_less g.K.Key.data_of c.args.graph.now c.args.costs.now.pairs start _ _ _ _ v unsettled _ _ puts refl refl _ (rw c.settle.ensures.waiting at few))
     c.follow_all.result c.follow_all.ensures.few)
 
 pub returns-clause-err : goal.returns-clause-err
