@@ -80,9 +80,6 @@ module _ {T : Type 0} where
     pub cursors : now.cursors ≡ old.cursors
     pub links : now.links ≡ old.links
 
-  pub joining_start : (s : Sequences T) (p q : ℕ) → Joining s p q s
-  joining_start s p q = record { joined = refl; others = λ r apart other. refl; values = λ k. refl; as_many = refl; cursors = refl; links = refl }
-
   -- one more is moved: the first one of the list q
   module _ (now : Sequences T) (once : IsOnce (all_elements now.lists)) (p q : ℕ) (apart : p ≢ q) (there : p < length now.lists) (k : Key) (v : T)
       (first : Some k ≡ first_or (elements_of q now.lists) None) (found : value_under k now.lists ≡ Some v) where

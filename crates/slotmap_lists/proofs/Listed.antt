@@ -140,9 +140,6 @@ module _ {T : Type 0} {c : Content T} {homes : List ℕ} {s : Lists} (kept : Are
   pub no_list_with : (k : Key) → map.contains_key c.live k ≡ false → list_with k lists ≡ []
   no_list_with k gone = none_list k lists (nowhere k (gone_if k gone))
 
-  pub no_number : (k : Key) → map.contains_key c.live k ≡ false → number_with k lists ≡ None
-  no_number k gone = none_number k lists (nowhere k (gone_if k gone))
-
   -- the cursors that a call returns stand, and in which list
   module _ {K : Type 0} (data_of : K → Key) where
     pub stand_all : (r : Option K) → IfSome r (λ key. IsLive c (data_of key)) → IfSome r (λ key. is_some (value_under (data_of key) lists) ≡ true)

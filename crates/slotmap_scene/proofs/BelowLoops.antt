@@ -102,7 +102,8 @@ module _ {T : Type 0} (nodes : Nodes T) (k : Key) (f : Node T → Node T) (child
   down_still : (n : ℕ) (ks : List Key) → keys_down (changed nodes k f) n ks ≡ keys_down nodes n ks
   down_still zero ks = refl
   down_still (suc n) [] = refl
-  down_still (suc n) (q ∷ ks) = ap (λ l. q ∷ l) (ap (λ own. keys_down (changed nodes k f) n (own ++ ks)) (changed_keeps nodes k f children_in children q) ∙ down_still n (children_of nodes q ++ ks))
+  down_still (suc n) (q ∷ ks) = ap (λ l. q ∷ l)
+      (ap (λ own. keys_down (changed nodes k f) n (own ++ ks)) (changed_keeps nodes k f children_in children q) ∙ down_still n (children_of nodes q ++ ks))
 
   pub below_still : (node : Key) → all_below (changed nodes k f) node ≡ all_below nodes node
   below_still node =

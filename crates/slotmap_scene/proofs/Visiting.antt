@@ -66,7 +66,8 @@ module _ {T : Type 0} (nodes : Nodes T) where
   same_ahead : (node : Key) (j n m : ℕ) (k : Key) → StepsTo nodes j k node → j < n → j < m → ahead_within nodes node n k ≡ ahead_within nodes node m k
   same_ahead node j zero m k steps less more = absurd (omega arith)
   same_ahead node j (suc n) zero k steps less more = absurd (omega arith)
-  same_ahead node zero (suc n) (suc m) k steps less more = ap (ahead_within nodes node (suc n)) steps ∙ ahead_top node (suc n) ∙ sym (ap (ahead_within nodes node (suc m)) steps ∙ ahead_top node (suc m))
+  same_ahead node zero (suc n) (suc m) k steps less more =
+      ap (ahead_within nodes node (suc n)) steps ∙ ahead_top node (suc n) ∙ sym (ap (ahead_within nodes node (suc m)) steps ∙ ahead_top node (suc m))
   same_ahead node (suc j) (suc n) (suc m) k steps less more =
       let up = steps.1.0 in
       let rest : left_then (ahead_within nodes node n) (parent_of nodes k) ≡ left_then (ahead_within nodes node m) (parent_of nodes k) =

@@ -36,7 +36,8 @@ module _ (ks : List Key) (once : (k : Key) → times k ks ≤ 1) where
   pub from_behind : (k : Key) → 0 < times k ks → keys_from (Some k) ks ≡ k ∷ keys_from (behind k ks) ks
   from_behind k more =
       let cut = split_at k ks more in
-      from_here k cut.0 cut.1 cut.2 ∙ ap (λ l. k ∷ l) (sym (ap (λ o. keys_from o ks) (behind_here k cut.0 cut.1 cut.2) ∙ by (cut.0 ++ k ∷ []) cut.1 (cut.2 ∙ sym (append_assoc cut.0 (k ∷ []) cut.1))))
+      let on = by (cut.0 ++ k ∷ []) cut.1 (cut.2 ∙ sym (append_assoc cut.0 (k ∷ []) cut.1)) in
+      from_here k cut.0 cut.1 cut.2 ∙ ap (λ l. k ∷ l) (sym (ap (λ o. keys_from o ks) (behind_here k cut.0 cut.1 cut.2) ∙ on))
     where
       by : (done rest : List Key) → ks ≡ done ++ rest → keys_from (first_or rest None) ks ≡ rest
       by done [] is = refl

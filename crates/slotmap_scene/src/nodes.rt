@@ -169,7 +169,8 @@ impl<K: Key, T: Drop> Scene<K, T> {
     pub fn remove(&mut self, node: K) -> Option<T>
         ensures value { result ≡ value_of self.old.nodes.live (K.data_of node) }
         ensures removed { (k : KeyOf) → IsWithin self.old.nodes.live k (K.data_of node) → lacks_node self.new.nodes.live k }
-        ensures others { (k : KeyOf) → (IsWithin self.old.nodes.live k (K.data_of node) → ⊥) → map.get self.new.nodes.live k ≡ option_map (forgets (K.data_of node)) (map.get self.old.nodes.live k) }
+        ensures others { (k : KeyOf) → (IsWithin self.old.nodes.live k (K.data_of node) → ⊥) →
+            map.get self.new.nodes.live k ≡ option_map (forgets (K.data_of node)) (map.get self.old.nodes.live k) }
         ensures leaves { Leaves self.old.nodes self.new.nodes }
         ensures capacity { memory self.new ≡ memory self.old }
         ensures for_good { (k : KeyOf) → has_node self.old.nodes.live k → IsWithin self.old.nodes.live k (K.data_of node) → IsSpent self.new.nodes k }

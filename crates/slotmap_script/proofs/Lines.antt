@@ -5,7 +5,7 @@ use Rattle.std.specs.{List.position_or_len, List.onto_first, Str.is_utf8, Str.Is
 use Rattle.std.proofs.lemmas.Bool.Decides.{nat_tests}
 use Rattle.std.proofs.Math.Seq.{take-length}
 use Rattle.std.proofs.lemmas.{List.map-append, Str.IsUtf8-from_is_utf8, Str.is_utf8-from_IsUtf8}
-use Rattle.slotmap_script.specs.ScriptText.{lines_of, Said, said_by, said_by_text, SaidBy, IsFirstBad}
+use Rattle.slotmap_script.specs.ScriptText.{lines_of, Said, said_by, said_by_text, SaidBy}
 
 abbrev first_feed : List ℕ → ℕ
 first_feed text = position_or_len (λ b. eqb b 10) text
@@ -44,10 +44,6 @@ not_found p n r h k = grind (arith, nat_tests)
 
 pub take_rest : {A : Type 0} (n : ℕ) (xs : List A) → take (length xs - n) (drop n xs) ≡ drop n xs
 take_rest n xs = rw (← length-drop n xs) (take-length (drop n xs))
-
-empty_of_length : (xs : List ℕ) → length xs ≡ 0 → xs ≡ []
-empty_of_length [] h = refl
-empty_of_length (x ∷ xs) h = absurd (omega (arith, h))
 
 pub append_nil : {A : Type 0} (xs : List A) → xs ++ [] ≡ xs
 append_nil [] = refl
@@ -95,20 +91,3 @@ module _ {C : Type 0} (command_of : List (List ℕ) → Option C) where
       all = said_more before.texts before.said first one before.all says;
       same = λ more. added more ∙ before.same (one ∷ more) ∙ ap from (sym (append_assoc before.said (one ∷ []) more));
     }
-
-    pub parsed_bad : (first others : List ℕ) → lines_of rest ≡ first ∷ lines_of others → said_by command_of first ≡ None → IsFirstBad command_of (lines_of script) (number + 1)
-    parsed_bad first others split bad = record {
-      before = before.texts;
-      bad = first;
-      after = lines_of others;
-      parts = before.lines ∙ ap (λ t. before.texts ++ t) split;
-      counted = omega (arith, before.counted);
-      said_before = (before.said, before.all);
-      says_nothing = bad;
-    }
-
-    pub parsed_all : length rest ≡ 0 → SaidBy command_of (lines_of script) before.said
-    parsed_all none =
-        let empty : rest ≡ [] = empty_of_length rest none in
-        let lines : lines_of script ≡ before.texts = before.lines ∙ ap (λ t. before.texts ++ lines_of t) empty ∙ append_nil before.texts in
-        rw lines before.all

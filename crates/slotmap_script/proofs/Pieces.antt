@@ -34,7 +34,8 @@ slots_begin slots i =
     (rest ++ (93 ∷ 10 ∷ []), ends first rest parts)
   where
     ends : (first rest : List ℕ) → join_with_byte 44 (map slot_text slots) ≡ first ++ rest → slots_text slots ≡ (91 ∷ first) ++ (rest ++ (93 ∷ 10 ∷ []))
-    ends first rest parts = ap (λ t. 91 ∷ ((t ++ (93 ∷ [])) ++ (10 ∷ []))) parts ∙ ap (λ t. 91 ∷ t) (append_assoc (first ++ rest) (93 ∷ []) (10 ∷ []) ∙ append_assoc first rest (93 ∷ 10 ∷ []))
+    ends first rest parts = ap (λ t. 91 ∷ ((t ++ (93 ∷ [])) ++ (10 ∷ []))) parts
+        ∙ ap (λ t. 91 ∷ t) (append_assoc (first ++ rest) (93 ∷ []) (10 ∷ []) ∙ append_assoc first rest (93 ∷ 10 ∷ []))
 
 zero_or_more : (i : ℕ) → (i ≤ 0) ⊎ (0 < i)
 zero_or_more zero = inl (omega arith)

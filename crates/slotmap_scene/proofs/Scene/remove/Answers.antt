@@ -5,15 +5,16 @@ use Rattle.slotmap_scene.proofs.Scene.remove.Goals as goal
 
 pub returns-then-not-contains_key-clause-removed : goal.returns-then-not-contains_key-clause-removed
 returns-then-not-contains_key-clause-removed g c =
-    rw (← c.self.view_is, ← c.inner-node.ensures) (gone_within c.self.inside.nodes.nodes.live c.self.invariant c.inner-node.result (sym c.contains_key.ensures.value ∙ c.if-not-contains_key.true))
+    rw (← c.self.view_is, ← c.inner-node.ensures)
+    (gone_within c.self.inside.nodes.nodes.live c.self.invariant c.inner-node.result (sym c.contains_key.ensures.value ∙ c.if-not-contains_key.true))
 
 pub returns-then-not-contains_key-clause-others : goal.returns-then-not-contains_key-clause-others
 returns-then-not-contains_key-clause-others g c = rw (← c.self.view_is, ← c.inner-node.ensures)
     (λ k out. gone_forgotten c.self.inside.nodes.nodes.live c.self.invariant c.inner-node.result (sym c.contains_key.ensures.value ∙ c.if-not-contains_key.true) k)
 
 pub returns-then-not-contains_key-clause-for_good : goal.returns-then-not-contains_key-clause-for_good
-returns-then-not-contains_key-clause-for_good g c = rw (← c.self.view_is, ← c.inner-node.ensures)
-    (λ k live within. absurd (let none = gone_within c.self.inside.nodes.nodes.live c.self.invariant c.inner-node.result (sym c.contains_key.ensures.value ∙ c.if-not-contains_key.true) k within in cc))
+returns-then-not-contains_key-clause-for_good g c = let gone = sym c.contains_key.ensures.value ∙ c.if-not-contains_key.true in rw (← c.self.view_is, ← c.inner-node.ensures)
+    (λ k live within. absurd (let none = gone_within c.self.inside.nodes.nodes.live c.self.invariant c.inner-node.result gone k within in cc))
 
 pub returns-then-not-contains_key-clause-leaves : goal.returns-then-not-contains_key-clause-leaves
 returns-then-not-contains_key-clause-leaves g c = leaves_none _

@@ -27,4 +27,5 @@ returns-clause-scene g c =
 
 pub returns-clause-stale : goal.returns-clause-stale
 returns-clause-stale g c =
-    child_spent c.requires.scene c.in_ok-key.ensures.fresh c.requires.parent c.in_ok-key.ensures.adds (put_in_place c.args.side c.args.sibling c.in_ok-key.key) (nodes_alike c.attach.ensures) c.insert.ensures.stale
+    child_spent c.requires.scene c.in_ok-key.ensures.fresh c.requires.parent c.in_ok-key.ensures.adds (put_in_place c.args.side c.args.sibling c.in_ok-key.key)
+    (nodes_alike c.attach.ensures) c.insert.ensures.stale
