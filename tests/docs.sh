@@ -6,7 +6,7 @@
 # iterators of a HopSlotMap might hide a read, which words of public
 # clauses docs/DEFINITIONS.md lacks, which clauses docs/PROVED.md names that don't exist in the calls beside them, which slow
 # operation has no cause in docs/PERFORMANCE.md, which cost is said more than once, which number of crates, wrong bodies or lines
-# is out of date, which public call no test runs, which page has no place on the site, whether a page says of a crate's axioms what its last verdict doesn't, and which text of a picture is wider
+# is out of date, which line of a source is too long, which public call no test runs, which page has no place on the site, whether a page says of a crate's axioms what its last verdict doesn't, and which text of a picture is wider
 # than its box. It takes some seconds. The status is 0 if there is no fault.
 cd "$(dirname "$0")/../docs"
 status=0
