@@ -13,7 +13,10 @@ use slotmap_json::{key_from_value, key_to_value, slots_from_value, slots_to_valu
 use std::alloc::Global;
 
 /// A key is read from the JSON that was written for it.
-pub fn key_is_read_as_it_was_written(alloc: Global, key: DefaultKey) -> Option<Result<DefaultKey, JsonError>>
+pub fn key_is_read_as_it_was_written(
+    alloc: Global,
+    key: DefaultKey,
+) -> Option<Result<DefaultKey, JsonError>>
     // Holds by `value` of `key_to_value` and `ok` of `key_from_value`.
     ensures { IfSome result (λ read. read ≡ Ok key) }
 {
@@ -50,7 +53,10 @@ pub fn empty_list_is_written(alloc: Global, list: &[SlotRecord<u64>]) -> Result<
 }
 
 /// No list is read from `null`.
-pub fn no_list_is_read_from_null(alloc: Global, value: &Value) -> Result<Vec<SlotRecord<u64>>, JsonError>
+pub fn no_list_is_read_from_null(
+    alloc: Global,
+    value: &Value,
+) -> Result<Vec<SlotRecord<u64>>, JsonError>
     requires { view value.now ≡ null }
     // Holds by `ok` and `err` of `slots_from_value`.
     ensures { IfErr result (λ error. error ≡ Shape) }
