@@ -103,7 +103,7 @@ LEMMA_NAMES = {
     'detached full inserts no_memory reattach_served removed': 'that command of a run, and of a joined run',
     'leads_on next_listed': 'a way goes on, and the next edge or key is listed: of two searches',
     'listed_once not_found taken goes_up put_len stands': 'the same of two models of a structure or a map',
-    'closed_spec end_spec into_unboxed_spec inside_spec is_closed_spec of_unboxed_spec send': 'that function of each handle for C, by the name that the checker wants',
+    'holder_spec send': 'that function of each handle for C, by the name that the checker wants',
 }
 
 # Lemmas of one name and one statement in two files
@@ -112,7 +112,7 @@ PROVED_TWICE = {
     'keeps_lent yields_in_order': 'the same of the drain of each structure',
     'first second some_is own': 'a line of logic that a structure proves for itself',
     'below-changed sorted-changed': 'of entries whose values are changed by the value, or by the key',
-    'closed_spec end_spec into_unboxed_spec inside_spec is_closed_spec of_unboxed_spec': 'that function of each handle for C, by the name that the checker wants',
+    'holder_spec': 'that function of each handle for C, by the name that the checker wants',
 }
 
 

@@ -3,7 +3,6 @@ mod ArrayLemmas
 mod ClosedLemmas
 mod Crossing
 mod GuardLemmas
-mod KeysValues
+mod Holders
 mod SideLemmas
-mod SideValues
 mod Values

@@ -1,24 +1,27 @@
 -- How handles and boxes that were taken apart lie in the machine, for the proofs by hand. Assumes `Logic`.
 --     one_value, fits_one, tells      a value of any type is one machine value, of the type's layout
---     word, pair                      the machine value of a handle, and of a pointer beside an allocator
---     handle_out, handle_in           a handle is its word and what it holds
+--     word, pair                      the machine value of a holder, and of a pointer beside an allocator
+--     holder_out, holder_in           a holder is its word and what it keeps
 --     testable                        a pointer whose block may be freed can be compared with null
---     tests                           the pointer of a handle is null where it is closed
+--     tests                           the pointer of a holder is null where it is closed
+--     keeps_of, holds_of              what a handle holds is what its holder keeps
+--     part_in                         machine values at a place, and what is owned at them, are a value there
 --     unboxed_out, unboxed_in         a box that was taken apart is its pair, the block and the allocator
 --     tuple_out                       so is the tuple that the library takes it apart into
-use Rattle.std.proofs.Common.{◌≡◌, not, List, [], ◌∷◌, ◌++◌, refl, ap, subst, lit<}
+use Rattle.std.proofs.Common.{◌≡◌, ℕ, not, List, [], ◌∷◌, ◌++◌, refl, ap, subst, lit<}
 use Rattle.core.specs.declared.alloc.Allocator.{Ghosts}
 use Rattle.std_alloc.specs.Box.Ownership.{box_owns}
 use Rattle.core.specs.Ptr.{points_to}
 use Rattle.std.proofs.GlobalToken.{dealloc_token-Testable}
-use Rattle.slotmap_c.specs.Held.{Map, holds, may_free, nothing as none_held}
+use Rattle.std.specs.Prelude.{Option, None, Some, is_some, unwrap_or}
+use Rattle.slotmap_c.specs.Held.{holds, keeps, may_free}
 use mathlib.Core.Bool.{Bool, true, false, ◌&&◌}
 use lib.Dec.{T}
 use seplogic.Ra.Ura.{Ura}
 use mir.Syntax.{Ty, ptr_eq, tcons, tnil, ty_ptr, ty_struct}
 use mir.Raw.{raw as bare}
 use mir.Val.{Val, vbool, vnull, op2_val, vstruct, vcons, vnil, of_list, has_ty, WT}
-use base.Fml.{ftrue}
+use base.Fml.{ftrue, fsep}
 use base.Logic.{never, never_e, via, fst∗, snd∗, guard_i}
 use types.Logic.{Logic, sem}
 use contract.Monad.{fact_use}
@@ -26,7 +29,8 @@ use types.Kit.{Item, Goal, Seq, Step, step, ‵, ◌$◌, use1, given, learn, mo
 use denote.RattleType.{RattleType, Valss}
 use denote.Builtin.{RawPtr}
 use denote.Laws.{Is, Typed, shows}
-use denote.Memory.{lone}
+use base.Fraction.{full_share}
+use denote.Memory.{lone, cell_at, part_at, part_of}
 use denote.Param.{layout}
 use denote.Param.Laws.{Laws}
 use denote.RawPtr.{Ptr, InBlock, block_ptr, null_ptr, ptr_val, Testable}
@@ -34,7 +38,7 @@ use denote.Steps.{nothing, peeks, only}
 use denote.Struct.Struct.{within}
 use denote.Struct.Owning.{shape}
 use denote.Struct.Tuple.{Tuple}
-use Rattle.slotmap_c.specs.contracts.handle.Handle as handle
+use Rattle.slotmap_c.specs.contracts.holder.Holder as holder
 use Rattle.slotmap_c.specs.contracts.unboxed.Unboxed as unboxed
 
 pub and_true : (x : Bool) → T x → T (x && true)
@@ -70,21 +74,22 @@ pub word_fits : (p : Ptr) → Fits (ty_struct [] (tcons ty_ptr tnil)) (word p)
 word_fits (block_ptr b o) = (tt, (tt, tt))
 word_fits null_ptr = (tt, (record { fits = lit< tt }, tt))
 
-abbrev pub Row : RattleType
-Row = handle.the_row
+module _ (R : RattleType) where
+  abbrev pub Holder : RattleType
+  Holder = holder.the_row R
 
-module _ {M : Type 1} {𝓤 : Ura M} {𝓛 : Logic 𝓤} {K : Type 0} {Γ : List (Item 𝓤)} {G : Goal 𝓤 𝓛.H} where
-  pub handle_out : K → (h : Row.Denot) (vs : List Val) → (vs ≡ word h.at ∷ [] → Seq K 𝓛 (‵ (holds Map none_held h.at h.is_open h.map) ∷ Γ) G)
-      → Seq K 𝓛 (‵ (Row.own_val h vs) ∷ Γ) G
-  handle_out t h vs next =
-      fsplit t $ fpick t (λ parts. fsplit t $ feq_l t (λ whole. fsplit t $ feq_l t (λ first. drop t $
-      next (subst (λ (us : List Val). vs ≡ vstruct (of_list (us ++ [])) ∷ []) first whole))))
+  module _ {M : Type 1} {𝓤 : Ura M} {𝓛 : Logic 𝓤} {K : Type 0} {Γ : List (Item 𝓤)} {G : Goal 𝓤 𝓛.H} where
+    pub holder_out : K → (h : Holder.Denot) (vs : List Val) → (vs ≡ word h.at ∷ [] → Seq K 𝓛 (‵ (keeps R h.at h.held) ∷ Γ) G)
+        → Seq K 𝓛 (‵ (Holder.own_val h vs) ∷ Γ) G
+    holder_out t h vs next =
+        fsplit t $ fpick t (λ parts. fsplit t $ feq_l t (λ whole. fsplit t $ feq_l t (λ first. drop t $
+        next (subst (λ (us : List Val). vs ≡ vstruct (of_list (us ++ [])) ∷ []) first whole))))
 
-  pub handle_in : K → (h : Row.Denot) → Step K 𝓛 (‵ (Row.own_val h (word h.at ∷ [])) ∷ Γ) G (‵ (holds Map none_held h.at h.is_open h.map) ∷ Γ) G
-  handle_in t h = step (λ s.
-      nothing t $ feq_i t (List Val) (ptr_val h.at ∷ []) (ptr_val h.at ∷ []) refl $ fjoin t $
-      feq_i t (List Val) (word h.at ∷ []) (word h.at ∷ []) refl $ fjoin t $
-      fpack t (Valss (RawPtr ∷ [])) (within (shape handle.the_type) (h.at, tt) (word h.at ∷ [])) (ptr_val h.at ∷ [], tt) $ fjoin t $ s)
+    pub holder_in : K → (h : Holder.Denot) → Step K 𝓛 (‵ (Holder.own_val h (word h.at ∷ [])) ∷ Γ) G (‵ (keeps R h.at h.held) ∷ Γ) G
+    holder_in t h = step (λ s.
+        nothing t $ feq_i t (List Val) (ptr_val h.at ∷ []) (ptr_val h.at ∷ []) refl $ fjoin t $
+        feq_i t (List Val) (word h.at ∷ []) (word h.at ∷ []) refl $ fjoin t $
+        fpack t (Valss (RawPtr ∷ [])) (within (shape (holder.the_type R)) (h.at, tt) (word h.at ∷ [])) (ptr_val h.at ∷ [], tt) $ fjoin t $ s)
 
 module _ {M : Type 1} {𝓤 : Ura M} {𝓛 : Logic 𝓤} {K : Type 0} {Γ : List (Item 𝓤)} {G : Goal 𝓤 𝓛.H} where
   -- a pointer whose block may be freed can be compared with null
@@ -96,15 +101,30 @@ module _ {M : Type 1} {𝓤 : Ura M} {𝓛 : Logic 𝓤} {K : Type 0} {Γ : List
       (dealloc_token-Testable 𝓛 (record { memory = record { seal = tt } }) τ p))
       (λ may. guard_i 𝓤 (Testable p) (sem 𝓛 (box_owns may_free R p x)) may)) $ learn t next
 
-  -- whether a handle is closed is asked of its pointer, and a closed one shows `none`
-  pub tests : K → (R : RattleType) (none : R.Denot) (p : Ptr) (y : Bool) (x : R.Denot)
-      → (Testable p → op2_val ptr_eq (ptr_val p) vnull ≡ vbool (not y) → (not y ≡ true → x ≡ none) → Seq K 𝓛 (‵ (holds R none p y x) ∷ Γ) G)
-      → Seq K 𝓛 (‵ (holds R none p y x) ∷ Γ) G
-  tests t R none null_ptr false x next = fsplit t $ move t (1 ∷ []) $ feq_l t (λ is. feq_i t R.Denot x none is $ move t (1 ∷ 0 ∷ []) $ fjoin t $ next (lit< tt) refl (λ e. is))
-  tests t R none null_ptr true x next =
+  -- whether a holder is closed is asked of its pointer
+  pub tests : K → (R : RattleType) (p : Ptr) (x : Option R.Denot)
+      → (Testable p → op2_val ptr_eq (ptr_val p) vnull ≡ vbool (not (is_some x)) → Seq K 𝓛 (‵ (keeps R p x) ∷ Γ) G) → Seq K 𝓛 (‵ (keeps R p x) ∷ Γ) G
+  tests t R null_ptr None next = next (lit< tt) refl
+  tests t R null_ptr (Some x) next =
       use1 𝓛 (given ⊥ (‵ ftrue)) (via 𝓤 (never 𝓤) (fst∗ 𝓤 (never 𝓤) (sem 𝓛 (may_free (bare (lone R.mir)) null_ptr))) (never_e 𝓤 _)) $ learn t (λ n. absurd n)
-  tests t R none (block_ptr b o) false x next = fsplit t $ feq_l t (λ n. absurd (subst (λ (p : Ptr). InBlock p) n tt))
-  tests t R none (block_ptr b o) true x next = testable t R (block_ptr b o) x (λ may. next may refl (λ e. absurd (subst (λ (z : Bool). T (not z)) e tt)))
+  tests t R (block_ptr b o) None next = feq_l t (λ n. absurd (subst (λ (p : Ptr). InBlock p) n tt))
+  tests t R (block_ptr b o) (Some x) next = testable t R (block_ptr b o) x (λ may. next may refl)
+
+  -- what a handle holds is what its holder keeps, and back
+  pub keeps_of : K → (R : RattleType) (none : R.Denot) (p : Ptr) (y : Bool) (x : R.Denot)
+      → ((held : Option R.Denot) → y ≡ is_some held → x ≡ unwrap_or held none → Seq K 𝓛 (‵ (keeps R p held) ∷ Γ) G) → Seq K 𝓛 (‵ (holds R none p y x) ∷ Γ) G
+  keeps_of t R none p false x next = fsplit t $ move t (1 ∷ []) $ feq_l t (λ is. next None refl is)
+  keeps_of t R none p true x next = next (Some x) refl refl
+
+  pub holds_of : K → (R : RattleType) (none : R.Denot) (p : Ptr) (x : Option R.Denot)
+      → Step K 𝓛 (‵ (holds R none p (is_some x) (unwrap_or x none)) ∷ Γ) G (‵ (keeps R p x) ∷ Γ) G
+  holds_of t R none p None = step (λ s. feq_i t R.Denot none none refl $ move t (1 ∷ 0 ∷ []) $ fjoin t $ s)
+  holds_of t R none p (Some x) = step (λ s. s)
+
+  pub part_in : K → (R : RattleType) (x : R.Denot) (vs : List Val) (b o : ℕ)
+      → Step K 𝓛 (‵ (part_at R full_share x b o) ∷ Γ) G (‵ (cell_at full_share R.mir vs b o) ∷ ‵ (R.own_val x vs) ∷ Γ) G
+  unfolding part_of
+  part_in t R x vs b o = step (λ s. fjoin t $ fpack t (List Val) (λ us. fsep (cell_at full_share R.mir us b o) (R.own_val x us)) vs $ s)
 
   -- what is owned of a value tells that it is one machine value
   pub tells : K → (R : RattleType) → Laws R → (x : R.Denot) (vs : List Val)

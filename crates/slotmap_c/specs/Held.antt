@@ -1,5 +1,5 @@
 -- What a handle owns.
-use Rattle.std.specs.Prelude.{Bool, true, false, [], Some}
+use Rattle.std.specs.Prelude.{Bool, true, false, [], Option, None, Some}
 use Rattle.std.specs.FinMap as map
 use Rattle.std.specs.FinSet as set
 use base.Fml.{Fml, feq, fsep}
@@ -43,3 +43,8 @@ nothing = record {
 abbrev pub holds : (R : RattleType) (none : R.Denot) → Ptr → Bool → R.Denot → Fml
 holds R none at false x = fsep (feq Ptr at null_ptr) (feq R.Denot x none)
 holds R none at true x = box_owns may_free R at x
+
+-- The same of a holder, which shows what it holds: nothing, if it is closed
+abbrev pub keeps : (R : RattleType) → Ptr → Option R.Denot → Fml
+keeps R at None = feq Ptr at null_ptr
+keeps R at (Some x) = box_owns may_free R at x

@@ -6,12 +6,11 @@ ghost use Rattle.std.specs.Coded.{coded_ℕ, coded_bool};
 ghost use Rattle.slotmap_core.specs.Words.{Content, content_code};
 ghost use Rattle.slotmap_c.specs.Held.{Map as MapRow, holds, nothing};
 
-use crate::unboxed::Unboxed;
+use crate::holder::Holder;
 use slotmap_basic::SlotMap;
 use slotmap_core::keys::DefaultKey;
 use std::alloc::Global;
 use std::marker::Model;
-use std::{mem, ptr};
 
 pub(crate) type Map = SlotMap<DefaultKey, u64>;
 
@@ -33,16 +32,15 @@ impl Model for Handle {
 unsafe impl Send for Handle {}
 
 impl Handle {
-    ghost use Rattle.slotmap_c.specs.Lending.{LendsMap};
+    ghost use Rattle.slotmap_c.specs.Lending.{LendsMap, LendsMapHolder, map_handle_of};
 
-    /// Makes a closed handle.
-    pub(crate) fn closed() -> Handle
-        ensures open { result.is_open ≡ false }
-        ensures map { result.map ≡ nothing }
+    // Lends the handle as a holder.
+    #[inline(always)]
+    fn holder(&mut self) -> &mut Holder<Map>
+        ensures* writes_back { sem 𝓛 (LendsMapHolder self.entry result) }
+        ensures value { map_handle_of result.now ≡ self.old }
     {
-        Handle {
-            at: ptr::null_mut(),
-        }
+        unsafe { &mut *(self as *mut Handle as *mut Holder<Map>) }
     }
 
     /// Returns whether the handle is closed.
@@ -50,7 +48,7 @@ impl Handle {
     pub(crate) fn is_closed(&mut self) -> bool
         ensures { (result ≡ not self.old.is_open) × (self.new ≡ self.old) × (result ≡ true → self.old.map ≡ nothing) }
     {
-        self.at.is_null()
+        self.holder().is_closed()
     }
 
     /// Lends the map of an open handle.
@@ -60,38 +58,7 @@ impl Handle {
         ensures* writes_back { sem 𝓛 (LendsMap self.entry result) }
         ensures value { result.now ≡ self.old.map }
     {
-        unsafe { &mut *(self.at as *mut Map) }
-    }
-
-    /// Lets a closed handle go.
-    pub(crate) fn end(self)
-        requires { self.is_open ≡ false }
-    {
-        let Handle { at: _ } = self;
-    }
-
-    fn of_unboxed(inside: Unboxed<Map, Global>) -> Handle
-        ensures open { result.is_open ≡ true }
-        ensures map { result.map ≡ inside.held }
-    {
-        let Unboxed { pointer, alloc: _ } = inside;
-        Handle {
-            at: pointer as *mut u8,
-        }
-    }
-
-    fn into_unboxed(self, alloc: Global) -> Option<Unboxed<Map, Global>>
-        ensures some { IfSome result (λ unboxed. (self.is_open ≡ true) × (unboxed.held ≡ self.map)) }
-        ensures none { IfNone result ((self.is_open ≡ false) × (self.map ≡ nothing)) }
-    {
-        let Handle { at } = self;
-        if at.is_null() {
-            return None;
-        }
-        Some(Unboxed {
-            pointer: at as *mut Map,
-            alloc,
-        })
+        self.holder().inside()
     }
 
     /// Takes the map out of the handle, which is closed then.
@@ -102,10 +69,7 @@ impl Handle {
         ensures open { self.new.is_open ≡ false }
         ensures map { self.new.map ≡ nothing }
     {
-        match mem::replace(self, Handle::closed()).into_unboxed(alloc) {
-            Some(unboxed) => Some(unboxed.into_box()),
-            None => None,
-        }
+        self.holder().take(alloc)
     }
 
     /// Puts a map into the closed handle.
@@ -115,6 +79,6 @@ impl Handle {
         ensures open { self.new.is_open ≡ true }
         ensures map { self.new.map ≡ inside.value }
     {
-        mem::replace(self, Handle::of_unboxed(Unboxed::of(inside))).end();
+        self.holder().put(inside);
     }
 }

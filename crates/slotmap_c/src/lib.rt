@@ -7,6 +7,7 @@
 
 mod guards;
 mod handle;
+mod holder;
 mod iterating;
 mod keyed;
 mod keys;

@@ -7,12 +7,11 @@ ghost use base.Stored.{coded_unit};
 ghost use Rattle.slotmap_core.specs.Words.{Content, content_code};
 ghost use Rattle.slotmap_c.specs.Held.{KeyMap as KeyMapRow, holds, nothing};
 
-use crate::unboxed::Unboxed;
+use crate::holder::Holder;
 use slotmap_basic::SlotMap;
 use slotmap_core::keys::DefaultKey;
 use std::alloc::Global;
 use std::marker::Model;
-use std::{mem, ptr};
 
 pub(crate) type KeyMap = SlotMap<DefaultKey, ()>;
 
@@ -34,16 +33,15 @@ impl Model for KeysHandle {
 unsafe impl Send for KeysHandle {}
 
 impl KeysHandle {
-    ghost use Rattle.slotmap_c.specs.Lending.{LendsKeys};
+    ghost use Rattle.slotmap_c.specs.Lending.{LendsKeys, LendsKeysHolder, keys_handle_of};
 
-    /// Makes a closed handle.
-    pub(crate) fn closed() -> KeysHandle
-        ensures open { result.is_open ≡ false }
-        ensures map { result.map ≡ nothing }
+    // Lends the handle as a holder.
+    #[inline(always)]
+    fn holder(&mut self) -> &mut Holder<KeyMap>
+        ensures* writes_back { sem 𝓛 (LendsKeysHolder self.entry result) }
+        ensures value { keys_handle_of result.now ≡ self.old }
     {
-        KeysHandle {
-            at: ptr::null_mut(),
-        }
+        unsafe { &mut *(self as *mut KeysHandle as *mut Holder<KeyMap>) }
     }
 
     /// Returns whether the handle is closed.
@@ -51,7 +49,7 @@ impl KeysHandle {
     pub(crate) fn is_closed(&mut self) -> bool
         ensures { (result ≡ not self.old.is_open) × (self.new ≡ self.old) × (result ≡ true → self.old.map ≡ nothing) }
     {
-        self.at.is_null()
+        self.holder().is_closed()
     }
 
     /// Lends the map of an open handle.
@@ -61,38 +59,7 @@ impl KeysHandle {
         ensures* writes_back { sem 𝓛 (LendsKeys self.entry result) }
         ensures value { result.now ≡ self.old.map }
     {
-        unsafe { &mut *(self.at as *mut KeyMap) }
-    }
-
-    /// Lets a closed handle go.
-    pub(crate) fn end(self)
-        requires { self.is_open ≡ false }
-    {
-        let KeysHandle { at: _ } = self;
-    }
-
-    fn of_unboxed(inside: Unboxed<KeyMap, Global>) -> KeysHandle
-        ensures open { result.is_open ≡ true }
-        ensures map { result.map ≡ inside.held }
-    {
-        let Unboxed { pointer, alloc: _ } = inside;
-        KeysHandle {
-            at: pointer as *mut u8,
-        }
-    }
-
-    fn into_unboxed(self, alloc: Global) -> Option<Unboxed<KeyMap, Global>>
-        ensures some { IfSome result (λ unboxed. (self.is_open ≡ true) × (unboxed.held ≡ self.map)) }
-        ensures none { IfNone result ((self.is_open ≡ false) × (self.map ≡ nothing)) }
-    {
-        let KeysHandle { at } = self;
-        if at.is_null() {
-            return None;
-        }
-        Some(Unboxed {
-            pointer: at as *mut KeyMap,
-            alloc,
-        })
+        self.holder().inside()
     }
 
     /// Takes the map out of the handle, which is closed then.
@@ -103,10 +70,7 @@ impl KeysHandle {
         ensures open { self.new.is_open ≡ false }
         ensures map { self.new.map ≡ nothing }
     {
-        match mem::replace(self, KeysHandle::closed()).into_unboxed(alloc) {
-            Some(unboxed) => Some(unboxed.into_box()),
-            None => None,
-        }
+        self.holder().take(alloc)
     }
 
     /// Puts a map into the closed handle.
@@ -116,6 +80,6 @@ impl KeysHandle {
         ensures open { self.new.is_open ≡ true }
         ensures map { self.new.map ≡ inside.value }
     {
-        mem::replace(self, KeysHandle::of_unboxed(Unboxed::of(inside))).end();
+        self.holder().put(inside);
     }
 }

@@ -7,12 +7,11 @@ ghost use Rattle.slotmap_secondary.specs.Content.{SideContent, side_code};
 ghost use Rattle.slotmap_c.specs.Held.{holds};
 ghost use Rattle.slotmap_c.specs.Side.{Side as SideRow, no_side};
 
-use crate::unboxed::Unboxed;
+use crate::holder::Holder;
 use slotmap_core::keys::DefaultKey;
 use slotmap_secondary::SecondaryMap;
 use std::alloc::Global;
 use std::marker::Model;
-use std::{mem, ptr};
 
 pub(crate) type Side = SecondaryMap<DefaultKey, u64>;
 
@@ -34,16 +33,15 @@ impl Model for SideHandle {
 unsafe impl Send for SideHandle {}
 
 impl SideHandle {
-    ghost use Rattle.slotmap_c.specs.Lending.{LendsSide};
+    ghost use Rattle.slotmap_c.specs.Lending.{LendsSide, LendsSideHolder, side_handle_of};
 
-    /// Makes a closed handle.
-    pub(crate) fn closed() -> SideHandle
-        ensures open { result.is_open ≡ false }
-        ensures side { result.side ≡ no_side }
+    // Lends the handle as a holder.
+    #[inline(always)]
+    fn holder(&mut self) -> &mut Holder<Side>
+        ensures* writes_back { sem 𝓛 (LendsSideHolder self.entry result) }
+        ensures value { side_handle_of result.now ≡ self.old }
     {
-        SideHandle {
-            at: ptr::null_mut(),
-        }
+        unsafe { &mut *(self as *mut SideHandle as *mut Holder<Side>) }
     }
 
     /// Returns whether the handle is closed.
@@ -51,7 +49,7 @@ impl SideHandle {
     pub(crate) fn is_closed(&mut self) -> bool
         ensures { (result ≡ not self.old.is_open) × (self.new ≡ self.old) × (result ≡ true → self.old.side ≡ no_side) }
     {
-        self.at.is_null()
+        self.holder().is_closed()
     }
 
     /// Lends the table of an open handle.
@@ -61,38 +59,7 @@ impl SideHandle {
         ensures* writes_back { sem 𝓛 (LendsSide self.entry result) }
         ensures value { result.now ≡ self.old.side }
     {
-        unsafe { &mut *(self.at as *mut Side) }
-    }
-
-    /// Lets a closed handle go.
-    pub(crate) fn end(self)
-        requires { self.is_open ≡ false }
-    {
-        let SideHandle { at: _ } = self;
-    }
-
-    fn of_unboxed(inside: Unboxed<Side, Global>) -> SideHandle
-        ensures open { result.is_open ≡ true }
-        ensures side { result.side ≡ inside.held }
-    {
-        let Unboxed { pointer, alloc: _ } = inside;
-        SideHandle {
-            at: pointer as *mut u8,
-        }
-    }
-
-    fn into_unboxed(self, alloc: Global) -> Option<Unboxed<Side, Global>>
-        ensures some { IfSome result (λ unboxed. (self.is_open ≡ true) × (unboxed.held ≡ self.side)) }
-        ensures none { IfNone result ((self.is_open ≡ false) × (self.side ≡ no_side)) }
-    {
-        let SideHandle { at } = self;
-        if at.is_null() {
-            return None;
-        }
-        Some(Unboxed {
-            pointer: at as *mut Side,
-            alloc,
-        })
+        self.holder().inside()
     }
 
     /// Takes the table out of the handle, which is closed then.
@@ -103,10 +70,7 @@ impl SideHandle {
         ensures open { self.new.is_open ≡ false }
         ensures side { self.new.side ≡ no_side }
     {
-        match mem::replace(self, SideHandle::closed()).into_unboxed(alloc) {
-            Some(unboxed) => Some(unboxed.into_box()),
-            None => None,
-        }
+        self.holder().take(alloc)
     }
 
     /// Puts a table into the closed handle.
@@ -116,6 +80,6 @@ impl SideHandle {
         ensures open { self.new.is_open ≡ true }
         ensures side { self.new.side ≡ inside.value }
     {
-        mem::replace(self, SideHandle::of_unboxed(Unboxed::of(inside))).end();
+        self.holder().put(inside);
     }
 }
