@@ -2,41 +2,22 @@
 --     Laid          how a struct of one pointer lies in the machine
 --     IsHolder      a handle of C is laid as the holder of a type, owns what that keeps, and is told by it
 --     meets         the function that lends a handle as a holder meets its contract
-use Rattle.std.proofs.Common.{◌≡◌, ℕ, List, [], ◌∷◌, refl, sym, subst}
-use Rattle.std.proofs.raw_atomic.Walks.{proved}
-use Rattle.std.proofs.VecSteps.Shapes.{after}
-use Rattle.std.specs.Prelude.{Option, is_some, unwrap_or}
+use Rattle.slotmap_c.proofs.Walk.{ℕ, List, [], refl, sym, subst, proved, after, Option, is_some, unwrap_or, Bool, Ura, Fml, GName, fsep, ftrue, flft, full_share, ent, sep, emp, id⊢, Ty, Fn}
+use Rattle.slotmap_c.proofs.Walk.{ty_ptr, named, Val, vptr, vstruct, of_list, Model, Logic, sem, fact, Running, tables, ‵, raw, some, later, at_ret, !, qed, by, done, move, keep, split, join}
+use Rattle.slotmap_c.proofs.Walk.{fsplit, fsplit3, fjoin, fpick, suffices, frame, group, use1, await, pick, stop, of_opd, addr, first, blocks, exec, returns, enter, alloc_all, pass_all, free_all}
+use Rattle.slotmap_c.proofs.Walk.{look_at, get, through, sets, sets_last, env, RawPtr, no, follows, Part, lends_Part, MutBor, mem, cell_at, part_at, RattleType, Valss, owns, Ptr, MutRef}
+use Rattle.slotmap_c.proofs.Walk.{mut_vals, mut_Tells, plain, mut_ref_to, nothing, opens, Clauses, Ended, Stays, walk_of, says, stay_dropped, Goes-spent_ref, ends_at}
+use Rattle.std.proofs.Common.{◌≡◌, ◌∷◌}
 use Rattle.slotmap_c.proofs.Values.{Holder, keeps_of, holds_of, part_in}
 use Rattle.slotmap_c.specs.Held.{holds}
-use mathlib.Core.Bool.{Bool}
-use seplogic.Ra.Ura.{Ura}
-use base.Fml.{Fml, GName, feq, fex, fsep, ftrue, flft}
-use base.Fraction.{full_share}
-use base.Logic.{ent, sep, emp, id⊢}
-use mir.Syntax.{Ty, Fn, Callee, local, value_local, ty_ref, ty_ptr, named, erased, mut, place, deref, addr_of, rv_opd, copy, seq, block, assign, return}
-use mir.Val.{Val, vptr, vstruct, of_list}
-use prog.Model.{Model}
+use base.Fml.{feq, fex}
+use mir.Syntax.{Callee, local, value_local, ty_ref, erased, mut, place, deref, addr_of, rv_opd, copy, seq, block, assign, return}
 use prog.Wp.{Closed}
-use types.Logic.{Logic, sem}
-use contract.Monad.{fact}
-use contract.Running.{Running, tables}
-use types.Kit.{‵, raw, ◌⊛◌, some, later, at_ret, ◌$◌, ◌∵◌, !, qed, by, done, move, keep, split, join, fsplit, fsplit3, fjoin, fpick, suffices, frame, group}
-use types.Kit.{use1, await, pick}
-use types.Run.{stop, of_opd, addr, first, blocks, exec, returns, enter}
-use types.ByLocal.{alloc_all, pass_all, free_all, look_at, get, through, sets, sets_last, env}
-use denote.Builtin.{RawPtr}
-use denote.Exit.{no}
-use denote.Follow.{follows, Part, lends_Part}
-use denote.MutBor.{MutBor}
-use denote.Memory.{mem, cell_at, part_at, part_of}
-use denote.RattleType.{RattleType, Valss, flat, owns}
-use denote.RawPtr.{Ptr}
-use denote.Ref.{MutRef, mut_vals, mut_Tells}
-use denote.Signature.{plain, mut_ref_to}
-use denote.Steps.{nothing, opens}
-use denote.Triple.Clauses.{Clauses, Ended, closing}
+use types.Kit.{◌⊛◌, ◌$◌, ◌∵◌}
+use denote.Memory.{part_of}
+use denote.RattleType.{flat}
+use denote.Triple.Clauses.{closing}
 use denote.Triple.Spec.{Meets}
-use denote.Triple.Walked.{Stays, walk_of, says, stay_dropped, Goes-spent_ref, ends_at}
 
 abbrev pub Laid : Ptr → List Val → Fml
 Laid p vs = fex (Valss (RawPtr ∷ [])) (λ vss. fsep (feq (List Val) vs (vstruct (of_list (flat (RawPtr ∷ []) vss)) ∷ [])) (owns (RawPtr ∷ []) (p, tt) vss))

@@ -6,3 +6,4 @@ mod GuardLemmas
 mod Holders
 mod SideLemmas
 mod Values
+mod Walk

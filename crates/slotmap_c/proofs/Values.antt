@@ -1,4 +1,4 @@
--- How handles and boxes that were taken apart lie in the machine, for the proofs by hand. Assumes `Logic`.
+-- How holders and boxes that were taken apart lie in the machine, for the proofs by hand. Assumes `Logic`.
 --     one_value, fits_one, tells      a value of any type is one machine value, of the type's layout
 --     word, pair                      the machine value of a holder, and of a pointer beside an allocator
 --     holder_out, holder_in           a holder is its word and what it keeps
@@ -8,36 +8,28 @@
 --     part_in                         machine values at a place, and what is owned at them, are a value there
 --     unboxed_out, unboxed_in         a box that was taken apart is its pair, the block and the allocator
 --     tuple_out                       so is the tuple that the library takes it apart into
-use Rattle.std.proofs.Common.{◌≡◌, ℕ, not, List, [], ◌∷◌, ◌++◌, refl, ap, subst, lit<}
+use Rattle.slotmap_c.proofs.Walk.{ℕ, not, List, [], refl, ap, subst, lit<, box_owns, Option, None, Some, is_some, unwrap_or, Bool, true, T, Ura, Ty, ty_ptr, Val, vbool, vstruct, of_list, has_ty}
+use Rattle.slotmap_c.proofs.Walk.{ftrue, fsep, never, never_e, via, fst∗, Logic, sem, ‵, use1, given, learn, move, drop, fsplit, fjoin, fpick, rewrite, feq_i, feq_l, RattleType, Valss, RawPtr}
+use Rattle.slotmap_c.proofs.Walk.{Is, shows, full_share, lone, cell_at, part_at, layout, Ptr, InBlock, block_ptr, null_ptr, ptr_val, nothing, peeks, Tuple}
+use Rattle.std.proofs.Common.{◌≡◌, ◌∷◌, ◌++◌}
 use Rattle.core.specs.declared.alloc.Allocator.{Ghosts}
-use Rattle.std_alloc.specs.Box.Ownership.{box_owns}
 use Rattle.core.specs.Ptr.{points_to}
 use Rattle.std.proofs.GlobalToken.{dealloc_token-Testable}
-use Rattle.std.specs.Prelude.{Option, None, Some, is_some, unwrap_or}
 use Rattle.slotmap_c.specs.Held.{holds, keeps, may_free}
-use mathlib.Core.Bool.{Bool, true, false, ◌&&◌}
-use lib.Dec.{T}
-use seplogic.Ra.Ura.{Ura}
-use mir.Syntax.{Ty, ptr_eq, tcons, tnil, ty_ptr, ty_struct}
+use mathlib.Core.Bool.{false, ◌&&◌}
+use mir.Syntax.{ptr_eq, tcons, tnil, ty_struct}
 use mir.Raw.{raw as bare}
-use mir.Val.{Val, vbool, vnull, op2_val, vstruct, vcons, vnil, of_list, has_ty, WT}
-use base.Fml.{ftrue, fsep}
-use base.Logic.{never, never_e, via, fst∗, snd∗, guard_i}
-use types.Logic.{Logic, sem}
+use mir.Val.{vnull, op2_val, vcons, vnil, WT}
+use base.Logic.{snd∗, guard_i}
 use contract.Monad.{fact_use}
-use types.Kit.{Item, Goal, Seq, Step, step, ‵, ◌$◌, use1, given, learn, move, drop, fsplit, fjoin, fpick, fpack, rewrite, feq_i, feq_l}
-use denote.RattleType.{RattleType, Valss}
-use denote.Builtin.{RawPtr}
-use denote.Laws.{Is, Typed, shows}
-use base.Fraction.{full_share}
-use denote.Memory.{lone, cell_at, part_at, part_of}
-use denote.Param.{layout}
+use types.Kit.{Item, Goal, Seq, Step, step, ◌$◌, fpack}
+use denote.Memory.{part_of}
+use denote.Laws.{Typed}
 use denote.Param.Laws.{Laws}
-use denote.RawPtr.{Ptr, InBlock, block_ptr, null_ptr, ptr_val, Testable}
-use denote.Steps.{nothing, peeks, only}
+use denote.RawPtr.{Testable}
+use denote.Steps.{only}
 use denote.Struct.Struct.{within}
 use denote.Struct.Owning.{shape}
-use denote.Struct.Tuple.{Tuple}
 use Rattle.slotmap_c.specs.contracts.holder.Holder as holder
 use Rattle.slotmap_c.specs.contracts.unboxed.Unboxed as unboxed
 

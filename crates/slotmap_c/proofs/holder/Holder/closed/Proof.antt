@@ -1,28 +1,13 @@
 -- A closed holder is made of nothing.
-use Rattle.std.proofs.Common.{◌≡◌, [], ◌∷◌, refl, lit<}
-use Rattle.std.proofs.raw_atomic.Walks.{proved_at, leaves}
-use Rattle.std.specs.Prelude.{None}
+use Rattle.slotmap_c.proofs.Walk.{[], refl, lit<, proved_at, leaves, None, inst_fn, a_type, Val, SProp, emp, fact, fact_i, tables, ‵, raw, !, qed, by, move, keep, drop, use0, split, feq_i, agg}
+use Rattle.slotmap_c.proofs.Walk.{lit, no_more, and_then, returns, enter, alloc_all, pass_all, free_all, look_at, sets, param, layouts, RattleType, owns, Ptr, null_ptr, types_at, nothing, alive}
+use Rattle.slotmap_c.proofs.Walk.{Stays, walk_of}
+use Rattle.std.proofs.Common.{◌≡◌, ◌∷◌}
 use Rattle.slotmap_c.proofs.Values.{Holder, word, holder_in}
 use Rattle.slotmap_c.specs.contracts.holder.Holder.closed.{ended, clauses}
 use Rattle.slotmap_c.specs.contracts.holder.Holder.closed.Key.{name as #self}
 use Rattle.slotmap_c.proofs.holder.Holder.closed.Statement.{statement}
-use mir.MapTy.{inst_fn}
-use mir.Syntax.{a_type}
-use mir.Val.{Val}
-use base.Logic.{SProp, emp}
-use contract.Monad.{fact, fact_i}
-use contract.Running.{tables}
-use types.Kit.{‵, raw, ◌⊛◌, ◌$◌, ◌∵◌, !, qed, by, move, keep, drop, use0, split, feq_i}
-use types.Part.{agg}
-use types.Run.{lit, no_more, and_then, returns, enter}
-use types.ByLocal.{alloc_all, pass_all, free_all, look_at, sets}
-use denote.Param.{param, layouts}
-use denote.RattleType.{RattleType, owns}
-use denote.RawPtr.{Ptr, null_ptr}
-use denote.Signature.{types_at}
-use denote.Steps.{nothing}
-use denote.Triple.Entry.{alive}
-use denote.Triple.Walked.{Stays, walk_of}
+use types.Kit.{◌⊛◌, ◌$◌, ◌∵◌}
 use Rattle.slotmap_c.proofs.holder.Holder.closed.Code as code
 
 pub closed_spec : {M : Type 1} → statement M

@@ -1,26 +1,15 @@
 -- `end` lets its holder go.
-use Rattle.std.proofs.Common.{List, [], ◌∷◌, ◌++◌, refl}
-use Rattle.core.proofs.alloc.Calls.{Goes-blank}
-use Rattle.std.proofs.raw_atomic.Walks.{proved_at, leaves}
+use Rattle.slotmap_c.proofs.Walk.{List, [], refl, Goes-blank, proved_at, leaves, inst_fn, a_type, Val, SProp, WpFn, tables, ‵, raw, prop, !, qed, by, move, keep, drop, split, regoal, fsplit, fjoin}
+use Rattle.slotmap_c.proofs.Walk.{feq_i, of_opd, returns, enter, alloc_all, pass_all, free_all, look_at, sets, param, layouts, RattleType, owns, types_at, plain, nothing, alive, Stays, stay_dropped}
+use Rattle.slotmap_c.proofs.Walk.{walk_of}
+use Rattle.std.proofs.Common.{◌∷◌, ◌++◌}
 use Rattle.slotmap_c.proofs.Values.{Holder, word, word_fits, holder_out}
 use Rattle.slotmap_c.specs.contracts.holder.Holder.end.{ended, clauses}
 use Rattle.slotmap_c.specs.contracts.holder.Holder.end.Key.{name as #self}
 use Rattle.slotmap_c.proofs.holder.Holder.end.Statement.{statement}
-use mir.MapTy.{inst_fn}
-use mir.Syntax.{a_type}
-use mir.Val.{Val, vunit}
-use base.Logic.{SProp}
-use prog.Wp.{WpFn}
-use contract.Running.{tables}
-use types.Kit.{‵, raw, ◌⊛◌, prop, ◌$◌, ◌∵◌, !, qed, by, move, keep, drop, split, regoal, fsplit, fjoin, feq_i}
-use types.Run.{of_opd, unit_lit, returns, enter}
-use types.ByLocal.{alloc_all, pass_all, free_all, look_at, sets}
-use denote.Param.{param, layouts}
-use denote.RattleType.{RattleType, owns}
-use denote.Signature.{types_at, plain}
-use denote.Steps.{nothing}
-use denote.Triple.Entry.{alive}
-use denote.Triple.Walked.{Stays, stay_dropped, walk_of}
+use mir.Val.{vunit}
+use types.Kit.{◌⊛◌, ◌$◌, ◌∵◌}
+use types.Run.{unit_lit}
 use Rattle.slotmap_c.proofs.holder.Holder.end.Code as code
 
 pub end_spec : {M : Type 1} → statement M

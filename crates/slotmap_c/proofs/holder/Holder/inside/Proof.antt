@@ -1,46 +1,22 @@
 -- `inside` lends what the pointer leads to, and the holder follows it.
-use Rattle.std.proofs.Common.{◌≡◌, ℕ, not, List, [], ◌∷◌, refl, sym, ap, subst, ◌∙◌}
-use Rattle.std.proofs.raw_atomic.Walks.{proved}
-use Rattle.std.proofs.VecSteps.Shapes.{after}
-use Rattle.std.specs.Prelude.{Option, None, Some, is_some}
-use Rattle.std_alloc.specs.Box.Ownership.{box_owns}
+use Rattle.slotmap_c.proofs.Walk.{ℕ, not, List, [], refl, sym, ap, subst, proved, after, Option, None, Some, is_some, box_owns, T, Ura, Bool, true, Fml, GName, ftrue, flft, fsep, full_share, ent}
+use Rattle.slotmap_c.proofs.Walk.{sep, never, fst∗, inst_fn, a_type, named, Val, vptr, Model, Logic, sem, fact, Running, tables, ‵, raw, some, later, at_ret, !, qed, by, done, move, keep, drop}
+use Rattle.slotmap_c.proofs.Walk.{split, join, fsplit, fsplit3, fjoin, suffices, frame, group, rewrite, use1, await, pick, whole, sub, look_in, stop, fld, of_opd, addr, first, blocks, exec, returns}
+use Rattle.slotmap_c.proofs.Walk.{enter, alloc_all, pass_all, free_all, look_at, get, through, sets, sets_last, env, no, follows, Part, lends_Part, MutBor, lone, cell_at, part_at, mem, param}
+use Rattle.slotmap_c.proofs.Walk.{layouts, RattleType, Ptr, block_ptr, null_ptr, MutRef, mut_vals, mut_Tells, plain, mut_ref_to, nothing, heard, opens, Stays, walk_of, says, stay_dropped}
+use Rattle.slotmap_c.proofs.Walk.{Goes-spent_ref, ends_at}
+use Rattle.std.proofs.Common.{◌≡◌, ◌∷◌, ◌∙◌}
 use Rattle.slotmap_c.proofs.Values.{Holder, word, holder_out, holder_in, part_in}
 use Rattle.slotmap_c.specs.Held.{keeps, may_free}
 use Rattle.slotmap_c.specs.Holding.{with_held}
 use Rattle.slotmap_c.specs.contracts.holder.Holder.inside as f
 use Rattle.slotmap_c.proofs.holder.Holder.inside.Statement.{statement}
 use Rattle.slotmap_c.proofs.holder.Holder.inside.Code as code
-use lib.Dec.{T}
-use seplogic.Ra.Ura.{Ura}
-use mathlib.Core.Bool.{Bool, true}
-use base.Fml.{Fml, GName, ftrue, flft, fsep}
-use base.Fraction.{full_share}
-use base.Logic.{ent, sep, never, fst∗}
-use mir.MapTy.{inst_fn}
-use mir.Syntax.{a_type, named}
 use mir.Raw.{raw as bare}
-use mir.Val.{Val, vptr}
-use prog.Model.{Model}
-use types.Logic.{Logic, sem}
-use contract.Monad.{fact}
 use contract.BorrowLft.{◌⊑◌}
-use contract.Running.{Running, tables}
-use types.Kit.{‵, raw, ◌⊛◌, some, later, at_ret, ◌$◌, ◌∵◌, !, qed, by, done, move, keep, drop, split, split3, join, fsplit, fsplit3, fjoin, suffices, frame, group, rewrite}
-use types.Kit.{use1, await, pick}
-use types.Part.{whole, sub, look_in}
-use types.Run.{stop, fld, hop, of_opd, addr, first, blocks, exec, returns, enter}
-use types.ByLocal.{alloc_all, pass_all, free_all, look_at, get, through, sets, sets_last, env}
-use denote.Exit.{no}
-use denote.Follow.{follows, Part, lends_Part}
-use denote.MutBor.{MutBor}
-use denote.Memory.{lone, cell_at, part_at, mem}
-use denote.Param.{param, layouts}
-use denote.RattleType.{RattleType}
-use denote.RawPtr.{Ptr, block_ptr, null_ptr, in_a_block}
-use denote.Ref.{MutRef, mut_vals, mut_Tells}
-use denote.Signature.{plain, mut_ref_to}
-use denote.Steps.{nothing, heard, opens}
-use denote.Triple.Walked.{Stays, walk_of, says, stay_dropped, Goes-spent_ref, ends_at}
+use types.Kit.{◌⊛◌, ◌$◌, ◌∵◌, split3}
+use types.Run.{hop}
+use denote.RawPtr.{in_a_block}
 
 there : {X : Type 0} (o : Option X) → is_some o ≡ true → (x : X) × (o ≡ Some x)
 there None e = absurd (subst (λ (z : Bool). T (not z)) e tt)

@@ -1,44 +1,22 @@
 -- `into_unboxed` tests the pointer, and hands the block over if there is one.
-use Rattle.std.proofs.Common.{◌≡◌, List, [], ◌∷◌, ◌++◌, refl, subst, lit<}
-use Rattle.core.proofs.alloc.Calls.{Goes-blank}
+use Rattle.slotmap_c.proofs.Walk.{List, [], refl, subst, lit<, Goes-blank, proved_at, leaves, after, Option, Some, None, ghosts, the_row_laws, Ura, true, inst_fn, Args, Fn, a_type, Val, of_list}
+use Rattle.slotmap_c.proofs.Walk.{has_ty, ftrue, SProp, ent, sep, emp, never, never_e, via, fst∗, Model, WpFn, Logic, sem, fact, fact_i, Running, tables, ‵, raw, prop, at_ret, !, qed, by, move}
+use Rattle.slotmap_c.proofs.Walk.{keep, drop, use0, use1, given, learn, split, regoal, fsplit, fjoin, feq_l, whole, sub, agg, stop, fld, bin, lit, of_opd, no_more, and_then, first, exec, returns}
+use Rattle.slotmap_c.proofs.Walk.{enter, alloc_all, pass_all, free_all, look_at, get, get_in, sets, env, lone, layout, layouts, param, owns, RattleType, Ptr, InBlock, null_ptr, block_ptr, tests_null}
+use Rattle.slotmap_c.proofs.Walk.{types_at, plain, nothing, Clauses, Ended, alive, Stays, stay_dropped, walk_of}
+use Rattle.std.proofs.Common.{◌≡◌, ◌∷◌, ◌++◌}
 use Rattle.core.proofs.option.Made.{Some-of, none_of}
-use Rattle.std.proofs.raw_atomic.Walks.{proved_at, leaves}
-use Rattle.std.proofs.VecSteps.Shapes.{after}
-use Rattle.std.specs.Prelude.{Option, Some, None}
-use Rattle.std_heap.specs.contracts.GlobalAllocator.TheImpl.{ghosts}
-use Rattle.std_heap.proofs.Global.TheLaws.{the_row_laws}
 use Rattle.slotmap_c.proofs.Values.{Fits, and_true, Holder, word, word_fits, pair, pair_fits, ptr_fits, tells, holder_out, testable, Unboxed, unboxed_in}
 use Rattle.slotmap_c.specs.Held.{keeps, may_free}
 use Rattle.slotmap_c.specs.contracts.holder.Holder.into_unboxed.{ended, clauses}
 use Rattle.slotmap_c.specs.contracts.holder.Holder.into_unboxed.Key.{name as #self}
 use Rattle.slotmap_c.proofs.holder.Holder.into_unboxed.Statement.{statement}
-use seplogic.Ra.Ura.{Ura}
-use mathlib.Core.Bool.{true, ◌&&◌}
-use mir.MapTy.{inst_fn}
-use mir.Syntax.{Args, Fn, a_type}
-use mir.Val.{Val, of_list, has_ty}
+use mathlib.Core.Bool.{◌&&◌}
 use mir.Raw.{raw as bare}
-use base.Fml.{ftrue}
-use base.Logic.{SProp, ent, sep, emp, never, never_e, via, fst∗}
-use prog.Model.{Model}
-use prog.Wp.{Calls, Loops, WpFn}
-use types.Logic.{Logic, sem}
-use contract.Monad.{fact, fact_i}
-use contract.Running.{Running, tables}
-use types.Kit.{‵, raw, ◌⊛◌, prop, at_ret, ◌$◌, ◌∵◌, !, qed, by, move, keep, drop, use0, use1, given, learn, split, regoal, fsplit, fjoin, feq_l}
+use prog.Wp.{Calls, Loops}
+use types.Kit.{◌⊛◌, ◌$◌, ◌∵◌}
 use types.Match.{live}
-use types.Part.{whole, sub, agg}
-use types.Run.{stop, fld, bin, lit, of_opd, no_more, and_then, first, branches, skips, exec, returns, returns_within, enter}
-use types.ByLocal.{alloc_all, pass_all, free_all, look_at, get, get_in, sets, env}
-use denote.Memory.{lone}
-use denote.Param.{layout, layouts, param}
-use denote.RattleType.{owns, RattleType}
-use denote.RawPtr.{Ptr, InBlock, null_ptr, block_ptr, tests_null}
-use denote.Signature.{types_at, plain}
-use denote.Steps.{nothing}
-use denote.Triple.Clauses.{Clauses, Ended}
-use denote.Triple.Entry.{alive}
-use denote.Triple.Walked.{Stays, stay_dropped, walk_of}
+use types.Run.{branches, skips, returns_within}
 use Rattle.core.specs.contracts.option.Option as option
 use Rattle.std_heap.specs.contracts.Global as heap
 use Rattle.slotmap_c.proofs.holder.Holder.into_unboxed.Code as code

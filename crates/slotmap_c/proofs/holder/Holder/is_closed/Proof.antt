@@ -1,28 +1,17 @@
 -- `is_closed` compares the pointer with null, and leaves the holder as it was.
-use Rattle.std.proofs.Common.{List, [], ◌∷◌, not, refl}
-use Rattle.std.proofs.raw_atomic.Walks.{proved}
-use Rattle.std.specs.Prelude.{is_some}
+use Rattle.slotmap_c.proofs.Walk.{List, [], not, refl, proved, is_some, ftrue, fsep, flft, full_share, inst_fn, a_type, named, Val, vbool, ‵, raw, !, qed, done, move, keep, split, join, fsplit3}
+use Rattle.slotmap_c.proofs.Walk.{suffices, frame, group, rewrite, feq_i, whole, sub, look_in, stop, fld, of_opd, bin, lit, returns, enter, alloc_all, pass_all, free_all, look_at, get, through, sets}
+use Rattle.slotmap_c.proofs.Walk.{cell_at, param, layouts, RattleType, tests_null, MutRef, mut_vals, mut_Tells, plain, nothing, opens, Stays, walk_of, says, ends_at}
+use Rattle.std.proofs.Common.{◌∷◌}
 use Rattle.slotmap_c.proofs.Values.{Holder, word, ptr_fits, holder_out, holder_in, tests}
 use Rattle.slotmap_c.specs.contracts.holder.Holder.is_closed as f
 use Rattle.slotmap_c.proofs.holder.Holder.is_closed.Statement.{statement}
 use Rattle.slotmap_c.proofs.holder.Holder.is_closed.Code as code
-use base.Fml.{ftrue, fsep, flft}
-use base.Fraction.{full_share}
-use mir.MapTy.{inst_fn}
-use mir.Syntax.{a_type, named}
-use mir.Val.{Val, vbool}
-use types.Kit.{‵, raw, ◌⊛◌, ◌$◌, ◌∵◌, !, qed, done, move, keep, split, join, fsplit3, suffices, frame, group, rewrite, feq_i}
-use types.Part.{whole, sub, look_in}
-use types.Run.{stop, fld, load, of_opd, bin, lit, returns, enter}
-use types.ByLocal.{alloc_all, pass_all, free_all, look_at, get, is, through, sets}
-use denote.Memory.{cell_at}
-use denote.Param.{param, layouts}
-use denote.RattleType.{RattleType}
-use denote.RawPtr.{tests_null}
-use denote.Ref.{MutRef, mut_vals, mut_Tells}
-use denote.Signature.{plain}
-use denote.Steps.{nothing, opens, closes}
-use denote.Triple.Walked.{Stays, walk_of, says, stay_ref, Goes-ref, ends_at}
+use types.Kit.{◌⊛◌, ◌$◌, ◌∵◌}
+use types.Run.{load}
+use types.ByLocal.{is}
+use denote.Steps.{closes}
+use denote.Triple.Walked.{stay_ref, Goes-ref}
 
 pub is_closed_spec : {M : Type 1} → statement M
 is_closed_spec 𝓤 𝓛 𝓜 𝓡 wired T L =

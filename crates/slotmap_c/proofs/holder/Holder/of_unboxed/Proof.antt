@@ -1,31 +1,13 @@
 -- `of_unboxed` hands the block over to the holder.
-use Rattle.std.proofs.Common.{◌≡◌, List, [], ◌∷◌, ◌++◌, refl}
-use Rattle.core.proofs.alloc.Calls.{Goes-blank}
-use Rattle.std.proofs.raw_atomic.Walks.{proved_at, leaves}
-use Rattle.std.specs.Prelude.{Some}
-use Rattle.std_heap.specs.contracts.GlobalAllocator.TheImpl.{ghosts}
-use Rattle.std_heap.proofs.Global.TheLaws.{the_row_laws}
+use Rattle.slotmap_c.proofs.Walk.{List, [], refl, Goes-blank, proved_at, leaves, Some, ghosts, the_row_laws, inst_fn, a_type, Val, SProp, emp, WpFn, fact, fact_i, tables, ‵, raw, prop, !, qed, by}
+use Rattle.slotmap_c.proofs.Walk.{move, keep, drop, use0, split, regoal, fsplit, fjoin, whole, sub, agg, stop, fld, of_opd, no_more, and_then, returns, enter, alloc_all, pass_all, free_all, look_at}
+use Rattle.slotmap_c.proofs.Walk.{get, get_in, sets, param, layouts, RattleType, owns, types_at, plain, nothing, alive, Stays, stay_dropped, walk_of}
+use Rattle.std.proofs.Common.{◌≡◌, ◌∷◌, ◌++◌}
 use Rattle.slotmap_c.proofs.Values.{Holder, word, word_fits, pair, pair_fits, ptr_fits, holder_in, Unboxed, unboxed_out}
 use Rattle.slotmap_c.specs.contracts.holder.Holder.of_unboxed.{ended, clauses}
 use Rattle.slotmap_c.specs.contracts.holder.Holder.of_unboxed.Key.{name as #self}
 use Rattle.slotmap_c.proofs.holder.Holder.of_unboxed.Statement.{statement}
-use mir.MapTy.{inst_fn}
-use mir.Syntax.{a_type}
-use mir.Val.{Val}
-use base.Logic.{SProp, emp}
-use prog.Wp.{WpFn}
-use contract.Monad.{fact, fact_i}
-use contract.Running.{tables}
-use types.Kit.{‵, raw, ◌⊛◌, prop, ◌$◌, ◌∵◌, !, qed, by, move, keep, drop, use0, split, regoal, fsplit, fjoin}
-use types.Part.{whole, sub, agg}
-use types.Run.{stop, fld, of_opd, no_more, and_then, returns, enter}
-use types.ByLocal.{alloc_all, pass_all, free_all, look_at, get, get_in, sets}
-use denote.Param.{param, layouts}
-use denote.RattleType.{RattleType, owns}
-use denote.Signature.{types_at, plain}
-use denote.Steps.{nothing}
-use denote.Triple.Entry.{alive}
-use denote.Triple.Walked.{Stays, stay_dropped, walk_of}
+use types.Kit.{◌⊛◌, ◌$◌, ◌∵◌}
 use Rattle.std_heap.specs.contracts.Global as heap
 use Rattle.slotmap_c.proofs.holder.Holder.of_unboxed.Code as code
 

@@ -1,40 +1,18 @@
 -- `into_box` makes the box of its pointer and its allocator again.
-use Rattle.std.proofs.Common.{◌≡◌, List, [], ◌∷◌, ◌++◌, refl}
-use Rattle.core.proofs.alloc.Calls.{Goes-blank}
-use Rattle.std.proofs.raw_atomic.Walks.{proved_at, leaves}
-use Rattle.std.proofs.VecSteps.Shapes.{after}
+use Rattle.slotmap_c.proofs.Walk.{List, [], refl, Goes-blank, proved_at, leaves, after, inst_fn, Args, a_type, dcons, dnil, Val, SProp, emp, id⊢, WpFn, fact, fact_i, tables, ‵, raw, some, later}
+use Rattle.slotmap_c.proofs.Walk.{prop, at_ret, !, qed, by, move, keep, drop, use0, use1, split, join, regoal, fsplit, fjoin, feq_i, pick, await, whole, sub, stop, fld, of_opd, no_more, and_then}
+use Rattle.slotmap_c.proofs.Walk.{first, blocks, exec, returns, enter, alloc_all, pass_all, free_all, look_at, get, get_in, sets, env, no, Is, shows, bounded, param, param_laws, owns, ptr_val}
+use Rattle.slotmap_c.proofs.Walk.{types_at, plain, nothing, heard, peeks, Lasts, lasts, alive, triple_of, framed, Stays, stay_dropped, walk_of}
+use Rattle.std.proofs.Common.{◌≡◌, ◌∷◌, ◌++◌}
 use Rattle.std_alloc.proofs.boxed.Box.from_raw.Met.{met}
 use Rattle.slotmap_c.proofs.Values.{fits_one, pair, pair_fits, ptr_fits, Unboxed, unboxed_out}
 use Rattle.slotmap_c.specs.contracts.unboxed.Unboxed.into_box.{ended, clauses}
 use Rattle.slotmap_c.specs.contracts.unboxed.Unboxed.into_box.Key.{name as #self}
 use Rattle.slotmap_c.proofs.unboxed.Unboxed.into_box.Statement.{statement}
-use mir.MapTy.{inst_fn}
-use mir.Syntax.{Args, a_type, dcons, dnil}
-use mir.Val.{Val}
-use base.Logic.{SProp, emp, id⊢}
 use contract.BorrowLft.{◌⊑◌}
-use prog.Wp.{WpFn}
-use contract.Monad.{fact, fact_i}
-use contract.Running.{tables}
-use types.Kit.{‵, raw, ◌⊛◌, some, later, prop, at_ret, ◌$◌, ◌∵◌, !, qed, by, move, keep, drop, use0, use1}
-use types.Kit.{split, join, regoal, fsplit, fjoin, feq_i, pick, await}
-use types.Part.{whole, sub}
-use types.Run.{stop, fld, of_opd, no_more, and_then, first, blocks, exec, returns, enter}
-use types.ByLocal.{alloc_all, pass_all, free_all, look_at, get, get_in, sets, lands_last, env}
-use denote.Exit.{no}
-use denote.Laws.{Is, shows}
-use denote.Param.{bounded, param}
-use denote.Param.Laws.{param_laws}
-use denote.RattleType.{owns}
-use denote.RawPtr.{ptr_val}
-use denote.Signature.{types_at, plain}
-use denote.Steps.{nothing, heard, peeks}
+use types.Kit.{◌⊛◌, ◌$◌, ◌∵◌}
+use types.ByLocal.{lands_last}
 use denote.Triple.Call.{calls_at_last}
-use denote.Triple.Clauses.{Lasts, lasts}
-use denote.Triple.Entry.{alive}
-use denote.Triple.Spec.{triple_of}
-use denote.Triple.Table.{framed}
-use denote.Triple.Walked.{Stays, stay_dropped, walk_of}
 use Rattle.std_alloc.specs.contracts.boxed.Box as box
 use Rattle.std_alloc.proofs.boxed.Box.TheLaws as box_laws
 use Rattle.std_alloc.specs.contracts.boxed.Box.from_raw as call

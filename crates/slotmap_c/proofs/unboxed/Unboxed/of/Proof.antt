@@ -1,38 +1,17 @@
 -- `of` keeps what the box owned, beside its pointer and its allocator.
-use Rattle.std.proofs.Common.{◌≡◌, List, [], ◌∷◌, ◌++◌, refl, sym, subst}
-use Rattle.core.proofs.alloc.Calls.{Goes-blank}
-use Rattle.std.proofs.raw_atomic.Walks.{proved_at, leaves}
-use Rattle.std_alloc.specs.Box.Ownership.{box_owns}
+use Rattle.slotmap_c.proofs.Walk.{List, [], refl, sym, subst, Goes-blank, proved_at, leaves, box_owns, inst_fn, Args, a_type, dcons, dnil, Val, SProp, ent, emp, id⊢, WpFn, fact, fact_i, tables}
+use Rattle.slotmap_c.proofs.Walk.{‵, raw, some, later, !, qed, by, move, keep, drop, use0, use1, split, fjoin, pick, await, rewrite, whole, sub, agg, stop, fld, of_opd, no_more, and_then, returns}
+use Rattle.slotmap_c.proofs.Walk.{enter, alloc_all, pass_all, free_all, look_at, get, get_in, sets, RawPtr, no, bounded, layout, param, param_laws, Ptr, plain, nothing, heard, Tuple, Lasts, lasts}
+use Rattle.slotmap_c.proofs.Walk.{alive, triple_of, framed, Stays, stay_dropped, walk_of}
+use Rattle.std.proofs.Common.{◌≡◌, ◌∷◌, ◌++◌}
 use Rattle.std_alloc.proofs.boxed.Box.into_raw_with_allocator.Met.{met}
 use Rattle.slotmap_c.proofs.Values.{Fits, one_value, pair, pair_fits, ptr_fits, Unboxed, unboxed_in, tuple_out}
 use Rattle.slotmap_c.specs.contracts.unboxed.Unboxed.of.{ended, clauses}
 use Rattle.slotmap_c.specs.contracts.unboxed.Unboxed.of.Key.{name as #self}
 use Rattle.slotmap_c.proofs.unboxed.Unboxed.of.Statement.{statement}
-use mir.MapTy.{inst_fn}
-use mir.Syntax.{Args, a_type, dcons, dnil}
-use mir.Val.{Val}
-use base.Logic.{SProp, ent, emp, id⊢}
-use prog.Wp.{WpFn}
-use contract.Monad.{fact, fact_i}
-use contract.Running.{tables}
-use types.Kit.{‵, raw, ◌⊛◌, some, later, ◌$◌, ◌∵◌, !, qed, by, move, keep, drop, use0, use1, split, fjoin, pick, await, rewrite}
-use types.Part.{whole, sub, agg}
-use types.Run.{stop, fld, of_opd, no_more, and_then, returns, enter}
-use types.ByLocal.{alloc_all, pass_all, free_all, look_at, get, get_in, sets, lands_as}
-use denote.Builtin.{RawPtr}
-use denote.Exit.{no}
-use denote.Param.{bounded, layout, param}
-use denote.Param.Laws.{param_laws}
-use denote.RawPtr.{Ptr}
-use denote.Signature.{plain}
-use denote.Steps.{nothing, heard}
-use denote.Struct.Tuple.{Tuple}
+use types.Kit.{◌⊛◌, ◌$◌, ◌∵◌}
+use types.ByLocal.{lands_as}
 use denote.Triple.Call.{calls_at}
-use denote.Triple.Clauses.{Lasts, lasts}
-use denote.Triple.Entry.{alive}
-use denote.Triple.Spec.{triple_of}
-use denote.Triple.Table.{framed}
-use denote.Triple.Walked.{Stays, stay_dropped, walk_of}
 use Rattle.std_alloc.specs.contracts.boxed.Box as box
 use Rattle.std_alloc.proofs.boxed.Box.TheLaws as box_laws
 use Rattle.std_alloc.specs.contracts.boxed.Box.into_raw_with_allocator as call
