@@ -64,7 +64,7 @@ pub fn drain<K: Key, T: Drop>(list: &mut StableList<K, T>)
     // No element is left.
     // Holds by `list` of `drain`, and `ends` of its drop.
     ensures dropped_drain_leaves_no_element { list.new.elements ≡ [] }
-    // No vector grows.
+    // What the list counts as reserved stays.
     // Refuses `drain_reserves_more`: `list` of `drain`, and `ends` of its drop.
     ensures dropped_drain_keeps_the_capacity { memory list.new ≡ memory list.old }
 {
@@ -73,7 +73,7 @@ pub fn drain<K: Key, T: Drop>(list: &mut StableList<K, T>)
 
 /// Guards of `move_to_front`.
 pub fn move_to_front<K: Key, T: Drop>(list: &mut StableList<K, T>, cursor: K) -> bool
-    // No vector grows.
+    // What the list counts as reserved stays.
     // Refuses `move_to_asks_for_links`: `moved` of `move_to_front`.
     ensures move_to_front_keeps_the_memory { memory list.new ≡ memory list.old }
 {

@@ -26,7 +26,8 @@ pub fn refilled_list(alloc: Global, value: u64) -> Result<StableList<Cursor, u64
     Ok(list)
 }
 
-/// Removes all elements, and adds as many new ones. It can't fail, and no vector grows.
+/// Removes all elements, and adds as many new ones. It can't fail, and what the list counts as reserved
+/// stays.
 ///
 /// No slot may be retired by it, so no cursor has the last version of its slot.
 pub fn fill_list_again(list: &mut StableList<Cursor, u64>, value: u64)

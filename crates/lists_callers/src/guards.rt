@@ -38,7 +38,7 @@ pub fn pop_front<K: Key, T: Drop>(lists: &mut StableLists<K, T>, list: usize) ->
 
 /// Guards of `move_to_front`.
 pub fn move_to_front<K: Key, T: Drop>(lists: &mut StableLists<K, T>, cursor: K, list: usize) -> bool
-    // No cursor is given or taken, and no vector grows.
+    // No cursor is given or taken, and what the lists count as reserved stays.
     // Refuses `move_to_front_asks_for_memory`: `moved` of `move_to_front`.
     ensures move_keeps_all_cursors { lists.new.cursors ≡ lists.old.cursors }
     ensures move_keeps_the_memory { memory lists.new ≡ memory lists.old }
@@ -48,7 +48,7 @@ pub fn move_to_front<K: Key, T: Drop>(lists: &mut StableLists<K, T>, cursor: K, 
 
 /// Guards of `append`.
 pub fn append<K: Key, T: Drop>(lists: &mut StableLists<K, T>, list: usize, other: usize) -> bool
-    // No vector grows.
+    // What the lists count as reserved stays.
     // Holds by `cursors` and `links` of `append`.
     ensures append_keeps_the_memory { memory lists.new ≡ memory lists.old }
 {

@@ -7,8 +7,8 @@ ghost use Rattle.slotmap_lists.specs.Sequences.{elements_of, memory, value_under
 use slotmap_lists::{Cursor, StableLists};
 
 /// Moves the timers of a tick behind those that are due, in their order. Each keeps its cursor and its
-/// value, the other lists stay, and no vector grows. If one of the two lists isn't there, or they are
-/// the same, nothing changes.
+/// value, and the other lists stay, as does what the wheel counts as reserved. If one of the two lists isn't
+/// there, or they are the same, nothing changes.
 pub fn expire(wheel: &mut StableLists<Cursor, u64>, tick: usize, due: usize)
     ensures empty { due ≢ tick → due < length wheel.old.lists → tick < length wheel.old.lists → elements_of tick wheel.new.lists ≡ [] }
     ensures behind { due ≢ tick → due < length wheel.old.lists → tick < length wheel.old.lists

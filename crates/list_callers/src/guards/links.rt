@@ -1,4 +1,4 @@
-//! Guards of links: in which calls no vector grows.
+//! Guards of links: in which calls the capacity stays.
 
 ghost use Rattle.std.specs.Prelude.{◌≡◌, ◌<◌, length};
 ghost use Rattle.slotmap_links.specs.Lists.{IsFree, IsIn};
@@ -9,9 +9,9 @@ use slotmap_links::Links;
 pub fn put_last(links: &mut Links, owner: u32, member: u32)
     requires owner { owner < length links.old.lists }
     requires free { IsFree links.old member }
-    // A member is put into a list, and no vector grows.
+    // A member is put into a list, and the capacity stays.
     // Refuses `put_asks_for_memory`: `ensures` of `put_last`.
-    ensures put_last_grows_no_vector { links.new.capacity ≡ links.old.capacity }
+    ensures put_last_keeps_the_capacity { links.new.capacity ≡ links.old.capacity }
 {
     links.put_last(owner, member);
 }
@@ -20,18 +20,18 @@ pub fn put_last(links: &mut Links, owner: u32, member: u32)
 pub fn take_out(links: &mut Links, owner: u32, member: u32)
     requires owner { owner < length links.old.lists }
     requires member { IsIn links.old owner member }
-    // A member is taken out of a list, and no vector grows.
+    // A member is taken out of a list, and the capacity stays.
     // Refuses `take_out_asks_for_memory`: `ensures` of `take_out`.
-    ensures take_out_grows_no_vector { links.new.capacity ≡ links.old.capacity }
+    ensures take_out_keeps_the_capacity { links.new.capacity ≡ links.old.capacity }
 {
     links.take_out(owner, member);
 }
 
 /// Guards of `clear`.
 pub fn clear(links: &mut Links)
-    // All lists are emptied, and no vector grows.
+    // All lists are emptied, and the capacity stays.
     // Holds by `ensures` of `clear`.
-    ensures clear_grows_no_vector { links.new.capacity ≡ links.old.capacity }
+    ensures clear_keeps_the_capacity { links.new.capacity ≡ links.old.capacity }
 {
     links.clear();
 }
