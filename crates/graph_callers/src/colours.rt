@@ -8,6 +8,7 @@ use slotmap::Key;
 use slotmap_graph::Graph;
 
 // Gives one node a colour, if it exists.
+#[tactic(auto, using(slotmap::proofs::Callers::keys))]
 fn paint<K: Key, E: Drop>(graph: &mut Graph<K, u64, E>, node: K, colour: u64)
     ensures here { IsLive graph.old.nodes (K.data_of node) → map.get graph.new.nodes.live (K.data_of node) ≡ Some colour }
     ensures others { (k : KeyOf) → k ≢ K.data_of node → map.get graph.new.nodes.live k ≡ map.get graph.old.nodes.live k }

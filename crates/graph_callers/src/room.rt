@@ -8,6 +8,7 @@ use slotmap_graph::Graph;
 use std::alloc::Global;
 
 // Adds a node, and an edge from it to itself.
+#[tactic(auto, using(slotmap::proofs::Callers::keys))]
 fn add_loop(graph: &mut Graph<NodeKey, u64, u64>)
     requires nodes { 0 < graph.old.nodes.room }
     requires edges { 0 < graph.old.edges.room }
