@@ -55,13 +55,13 @@ def of(module, **names):
 
 
 # Which tests are in a file or a folder, and what its names stand for. The rows are calls whose results are those of the crate slotmap or
-# were worked out by hand; structures_at_size is held to a model in Python. The programs call the proved maps.
+# were worked out by hand. The programs call the proved maps. The models of `at_size` are in Python.
 FILES = [
     ("rows", PROGRAMS / "primary_rows", {"map": PROVED_PRIMARY, "self": PROVED_PRIMARY}),
     ("rows", PROGRAMS / "secondary_rows", {"map": PROVED_SIDE, "entry": PROVED_ENTRIES}),
     ("rows", PROGRAMS / "joined_rows", {}),
     ("rows", PROGRAMS / "slotmap_script", {}),
-    ("rows", PROGRAMS / "structures_at_size", OF_STRUCTURES),
+    ("models", "at_size", OF_STRUCTURES),
     ("models", "models/primary.rs", {**all_of(PRIMARY), "fallible": PROVED_PRIMARY}),
     ("models", "models/side.rs", {**all_of(SIDE), "fallible": PROVED_SIDE, "entry": ENTRIES}),
     ("models", "models/list.rs", of("list")),

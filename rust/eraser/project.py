@@ -17,11 +17,11 @@ LIBRARIES = {
     "slotmap_paths": "structures", "slotmap_scene": "structures", "slotmap_entities": "structures", "slotmap_scheduler": "structures",
 }
 # Programs that must print what the proved ones print, and the libraries that only they use.
-PROGRAMS = ("slotmap_rows", "primary_rows", "secondary_rows", "joined_rows", "slotmap_script", "slotrun", "structures_at_size")
+PROGRAMS = ("slotmap_rows", "primary_rows", "secondary_rows", "joined_rows", "slotmap_script", "slotrun")
 # Crates of Rattle that are no part of either.
 NOT_ERASED = {
     "map_guards", "slotdemo", "slotmap_c", "slotmap_examples", "list_callers", "lists_callers", "graph_callers", "paths_callers", "scene_callers",
-    "scheduler_callers", "entities_callers",
+    "scheduler_callers", "entities_callers", "structures_at_size",
 }
 LIBRARY_TREE, PROGRAM_TREE = "rust/src/proved", "rust/check/src/programs"
 

@@ -3,7 +3,7 @@
 //!
 //! A row that may ask for nothing is made within its room, at 1,000 elements and at 100,000, once for each element or, if the call goes over
 //! all of them, once. The requests of all threads' calls are counted, each thread's by itself, and there must be none. A row that may ask says
-//! for what, and at most how often; it must ask at least once.
+//! for what, and at most how often; it must ask at least once. In the turns of `turns.rs` the calls come one after the other.
 
 mod common;
 #[macro_use]
@@ -36,6 +36,8 @@ mod scheduler;
 mod side;
 #[path = "room/side_steps.rs"]
 mod side_steps;
+#[path = "room/turns.rs"]
+mod turns;
 #[path = "memory/watching.rs"]
 mod watching;
 #[path = "room/world.rs"]

@@ -21,7 +21,6 @@ mod programs {
     pub mod slotmap_script;
     #[cfg(not(without_slotrun))]
     pub mod slotrun;
-    pub mod structures_at_size;
 }
 
 use std::process::ExitCode;
@@ -37,7 +36,6 @@ fn main() -> ExitCode {
         Some("secondary_rows") => programs::secondary_rows::main,
         #[cfg(not(without_slotrun))]
         Some("slotrun") => programs::slotrun::main,
-        Some("structures_at_size") => programs::structures_at_size::main,
         _ => {
             eprintln!("programs NAME ARGS ..: no program has the name {name:?}");
             return ExitCode::from(NO_PROGRAM);
