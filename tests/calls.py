@@ -6,7 +6,7 @@
     tests/calls.py --check    only the calls that no test runs, and words of row programs that no row has; status 1 if there are any
 
 A call is a public function, a method of a public type or trait, or a method of a trait in TRAITS for a public type. These kinds of tests run: `rows` (the row
-programs), `sizes` (structures_at_size), `tests` (those of the Rust crate, outside the gate), `programs` (slotdemo and slotrun), `C` (c/tests), and `docs`
+programs), `callers` (the programs of callers of a structure), `tests` (those of the Rust crate, outside the gate), `programs` (slotdemo and slotrun), `C` (c/tests), and `docs`
 (the examples of the doc comments and the programs of the pages, outside the gate). The kind `proved` (the guards and the examples of callers) is proved and never run.
 
 The script reads texts, and call_finder.py follows types only as far as a function shows them. So it doesn't see
@@ -37,7 +37,7 @@ from sources import MAPS, facade, files_of, items_of
 
 KINDS = {
     "rows": ["primary_rows", "secondary_rows", "joined_rows", "slotmap_rows"],
-    "sizes": ["structures_at_size"],
+    "callers": ["list_callers", "lists_callers", "graph_callers", "paths_callers", "scene_callers", "scheduler_callers", "entities_callers"],
     "programs": ["slotdemo", "slotmap_script", "slotrun"],
     "proved": ["slotmap_examples", "map_guards", *(f"{it}_callers" for it in ("list", "lists", "graph", "paths", "scene", "scheduler", "entities"))],
 }
@@ -59,15 +59,15 @@ TRAITS = {
 }
 # The traits by which the row programs call each map that has them.
 EACH_MAP = ("Primary", "Detaching", "Secondary")
-BY_WORLD = "sizes: crates/structures_at_size/src/worlds.rt (World's calls make it on the tables of both kinds)"
-BY_GRAPH = "sizes: crates/structures_at_size/src/graphs.rt (Graph's calls of the same purpose make it)"
+BY_WORLD = "tests: rust/check/tests/at_size/world.rs (World's calls make it on the tables of both kinds)"
+BY_GRAPH = "tests: rust/check/tests/at_size/graph.rs (Graph's calls of the same purpose make it)"
 BY_HAND = {
     **{f"Table::{it}": BY_WORLD for it in ("reserve", "get_mut", "remove", "retain")},
     **{f"{it}": BY_WORLD for it in ("Tables::new", "Tables::remove", "Tables::clear", "Kind::table_mut", "CloneTables::clone_tables")},
     **{f"BoundedMap::{it}": BY_GRAPH for it in ("live_key", "note_live", "value", "next_after")},
     "Edge::clone": BY_GRAPH,
-    "inner": "sizes: crates/structures_at_size/src/scenes.rt (Scene's calls make it for each key)",
-    "outer": "sizes: crates/structures_at_size/src/scenes.rt (Scene's calls make it for each key)",
+    "inner": "tests: rust/check/tests/at_size/scene.rs (Scene's calls make it for each key)",
+    "outer": "tests: rust/check/tests/at_size/scene.rs (Scene's calls make it for each key)",
     "DenseSlotMap::can_replace": "rows: crates/primary_rows/src/dense.rt (`replace_disjoint` begins with it)",
     "KeyData::exact": "rows: crates/primary_rows/src/basic.rt (the maps make each key by it)",
 }
@@ -167,7 +167,7 @@ def lines():
     found, titles = found_in_crates(library), library.titles()
     for (head, call), title in titles.items():
         kinds = found[head, call]
-        parts = [f"{kind}: {', '.join(sorted(kinds[kind]))}" for kind in ["rows", "sizes", "tests", "programs", "proved", "docs"] if kind in kinds]
+        parts = [f"{kind}: {', '.join(sorted(kinds[kind]))}" for kind in ["rows", "callers", "tests", "programs", "proved", "docs"] if kind in kinds]
         parts += [BY_HAND[title] + " (by hand)"] if title in BY_HAND else []
         yield f"{title}\t{'; '.join(parts)}", title in BY_HAND or bool(set(kinds) - {"proved"})
     for name, files in found_in_c().items():

@@ -1,8 +1,8 @@
 #!/usr/bin/env bash
 # tests/memory.sh [PROGRAM ..]
 #
-# Runs the programs primary_rows, secondary_rows, joined_rows, slotrun, slotdemo and structures_at_size with refused memory, or those that
-# are named. Each program runs once for each of its requests for memory, with this request refused alone, and once with all from it on refused.
+# Runs the programs primary_rows, secondary_rows, joined_rows, slotrun, slotdemo and the callers of the structures (list_callers, ..) with
+# refused memory, or those that are named. Each program runs once for each of its requests for memory, with this request refused alone, and once with all from it on refused.
 #
 # - A row program with one refused request prints what it prints without, and ends with status 0: the refused call left
 #   all as it was, and was made once more. Only the number of calls made twice may be 1 once. Where memory for the
@@ -15,9 +15,9 @@
 #   was refused, the other lines are then those of the script without the refused line. With no words it prints its usage,
 #   and ends with status 2, where no request is met.
 # - `slotdemo`, whose five structures do without a second try, prints what it prints without, or stops on the way with status 1.
-# - `structures_at_size`, which makes each call of the structures that may ask for memory, at 12 elements, does so too. What it prints
-#   without is what `expected.py` says. Where `StableList::from_iter` is refused a value, it prints this value in a last line. This has to
-#   happen, and a value below 12 comes back each time.
+# - The callers, which make calls of each kind of a structure at 1000 elements, do so too. What they print without is their file `stdout`.
+#   Where `StableList::from_iter` is refused a value, `list_callers` prints this value in a last line. This has to happen, and a value below
+#   1000 comes back each time.
 #
 # Row files with a call that is repeated over 1,000 times are left out, and the hundred lists, which ask for memory as often. So
 # are the random rows of secondary_rows, which count drops after an `extend`: it keeps the pairs before the fault, and is called
@@ -25,8 +25,8 @@
 #
 # Once room was made for a hundred keys, no insert of one of them asks for memory. Nor does any call that never allocates, in a
 # map of a hundred keys: a removal, a detach, a reattach, a replacement, a clear, a retain, a drain, a reserve that finds room.
-# Nor does an add, a move or a removal of a list, a graph, a scene or a scheduler within the room for a hundred elements: turns of
-# such calls ask for memory no more often than no turn.
+# The callers of all structures but paths make thousands of calls, mostly within room that was made, with a hundred requests at most. So none of
+# their adds, moves and removals asks each time. That a call within its room never asks is tested over the Rust crate (rust/check/tests/room).
 #
 # No row asks for far more memory than it needs. Over a file of rows the largest request is at most 256 KiB, which is ten
 # thousand slots of 24 bytes. Where a call is repeated over 1,000 times it is at most 16 MiB.
@@ -123,13 +123,13 @@ check_demo() {
 }
 export -f check_demo
 
-# check_sizes OUT: what structures_at_size printed, but for a value that a list was refused.
-check_sizes() {
-    sed -E '/^  refused: ([0-9]|1[01])$/d' "$1" >"$1.rest"
+# check_list OUT: what list_callers printed, but for a value that a list was refused.
+check_list() {
+    sed -E '/^refused: [0-9]{1,3}$/d' "$1" >"$1.rest"
     cmp -s "$1" "$1.rest" || echo "$refused" >>"$case/refused"
     check_demo "$1.rest"
 }
-export -f check_sizes
+export -f check_list
 
 # enter_case CASE: what runs, and where.
 enter_case() {
@@ -265,23 +265,15 @@ check_rooms() {
     echo "$1: no request within the room that was made"
 }
 
-# count_turns PROGRAM WORD: how often structures_at_size asks for memory in the turns of a structure that a word names.
-count_turns() {
-    env "LD_PRELOAD=$scratch/refuse.so" REFUSE_COUNT=1 "$1" "$2" 2>"$scratch/turns" >/dev/null || echo "and fails"
-    sed -n 's/^requests \([0-9]*\) .*/\1/p' "$scratch/turns"
-}
-
-# check_structures PROGRAM: no call of these structures asks for memory within the room that was made.
-check_structures() {
-    local structure least seen
-    for structure in list graph scene scheduler; do
-        least=$(count_turns "$1" $structure:0)
-        seen=$(count_turns "$1" $structure:20)
-        [[ -n $seen && $seen = "$least" && $seen != *fails* ]] && continue
-        echo "fault: a $structure asks for memory within its room: $seen requests in 20 turns, $least in none"
-        exit 1
-    done
-    echo "structures_at_size: no request of a list, a graph, a scene or a scheduler within the room that was made"
+# check_callers PROGRAM: the callers of a structure print what they have to, with a hundred requests at most. A path is a vector of its own.
+check_callers() {
+    local folder=$top/crates/$1 requests
+    requests=$(env "LD_PRELOAD=$scratch/refuse.so" REFUSE_COUNT=1 "$folder/out/$1" 2>&1 >"$scratch/printed" |
+        sed -n 's/^requests \([0-9]*\) .*/\1/p')
+    diff "$scratch/printed" "$folder/stdout" || exit 1
+    [[ $1 = paths_callers || $requests -le 100 ]] && return
+    echo "fault: $1 asks for memory $requests times, and at most 100 would do"
+    exit 1
 }
 
 # try_rows PROGRAM: the row files that the program's file `args` names.
@@ -323,21 +315,23 @@ try_slotrun() {
     done
 }
 
-# try_sizes: the calls of the structures at 12 elements. At 10 the paths of the test lead nowhere.
-try_sizes() {
-    local folder=$top/crates/structures_at_size
-    check_structures "$folder/out/structures_at_size"
-    "$folder/out/structures_at_size" 12 >"$scratch/sizes"
-    python3 "$folder/expected.py" 12 | diff "$scratch/sizes" - || exit 1
-    try_case check_sizes "$top" "$folder/out/structures_at_size" 12 /dev/null 0
+# try_callers PROGRAM: the callers of a structure.
+try_callers() {
+    local check=check_demo
+    check_callers "$1"
+    [ "$1" = list_callers ] && check=check_list
+    try_case $check "$top" "$top/crates/$1/out/$1" "" /dev/null 0
+    [ "$1" = list_callers ] || return 0
     if ! cat "$scratch"/case.*/refused >"$scratch/refused"; then
-        echo "fault: structures_at_size 12 never prints the value that a list was refused"
+        echo "fault: list_callers never prints the value that a list was refused"
         exit 1
     fi
-    echo "structures_at_size: a list's refused value came back in $(wc -l <"$scratch/refused") runs"
+    echo "list_callers: a list's refused value came back in $(wc -l <"$scratch/refused") runs"
 }
 
-[ $# -gt 0 ] || set -- primary_rows secondary_rows joined_rows slotrun slotdemo structures_at_size
+callers="list_callers lists_callers graph_callers paths_callers scene_callers scheduler_callers entities_callers"
+# shellcheck disable=SC2086
+[ $# -gt 0 ] || set -- primary_rows secondary_rows joined_rows slotrun slotdemo $callers
 for program in "$@"; do
     if [ ! -x "$top/crates/$program/out/$program" ]; then
         echo "memory.sh: crates/$program/out/$program isn't built: run \`rt run\` in crates/$program first" >&2
@@ -353,7 +347,7 @@ cases=0
 for program in "$@"; do
     case $program in
         slotrun) try_slotrun ;;
-        structures_at_size) try_sizes ;;
+        *_callers) try_callers "$program" ;;
         slotdemo) try_case check_demo "$top" "$top/crates/slotdemo/out/slotdemo" "" /dev/null 0 ;;
         *)
             check_rooms "$program"

@@ -51,7 +51,7 @@ HEIGHT = 56
 # The library of a program stands as the program, and guards of the maps as tests.
 LIBRARIES = {
     "slotmap_script": "slotrun",
-    "structures_at_size": TESTS, "map_guards": TESTS,
+    "map_guards": TESTS,
     **{f"{it}_callers": CALLERS for it in ("list", "lists", "graph", "paths", "scene", "scheduler", "entities")},
 }
 

@@ -3,9 +3,12 @@
 
 It is a model in plain Python, of lists, dictionaries and heapq, and shares nothing with the calls but their random
 numbers, their sum, and their order. At a million elements the scenes took it 26 minutes beside other work, and the lists 12.
+
+`python3 expected.py --callers` writes the files crates/*_callers/stdout, from the models in callers.py.
 """
 
 import heapq
+import pathlib
 import sys
 from collections import OrderedDict, deque
 
@@ -24,12 +27,17 @@ class Random:
         return items[self.draw() % len(items)]
 
 
-def tell(what, numbers):
+def summed(numbers):
+    """How many numbers there are, and their sum."""
     count, value = 0, 14695981039346656037
     for number in numbers:
         count += 1
         value = ((value ^ number) * 1099511628211) & MASK
-    print(f"  {what}: {count} numbers, {value}")
+    return count, value
+
+
+def tell(what, numbers):
+    print("  {}: {} numbers, {}".format(what, *summed(numbers)))
 
 
 def both_ends(values):
@@ -516,9 +524,9 @@ def chance_part(size):
     tell("cleared", [])
 
 
-def distances(roads):
-    """The least cost of a path from the first node to each node, and the greatest number where there is none."""
-    found, waiting = {}, [(0, 0)]
+def distances(roads, start=0):
+    """The least cost of a path from a node to each node, and the greatest number where there is none."""
+    found, waiting = {}, [(0, start)]
     while waiting:
         distance, node = heapq.heappop(waiting)
         if node not in found:
@@ -796,7 +804,19 @@ def world_part(size):
     tell("of those left", [n for key in range(1, size, 2) for n in (key, key * 2, key * 3, key * 4)])
 
 
-for word in sys.argv[1:]:
-    print(f"{word} elements")
-    for part in list_part, segments_part, graph_part, routes_part, searches_part, scene_part, scheduler_part, world_part:
-        part(int(word))
+def write_callers():
+    """Writes what the programs of the callers have to print."""
+    import callers
+
+    for name in callers.CALLERS:
+        (pathlib.Path(__file__).resolve().parents[4] / "crates" / name / "stdout").write_text(callers.printed(name))
+
+
+if __name__ == "__main__":
+    if sys.argv[1:] == ["--callers"]:
+        write_callers()
+        sys.exit()
+    for word in sys.argv[1:]:
+        print(f"{word} elements")
+        for part in list_part, segments_part, graph_part, routes_part, searches_part, scene_part, scheduler_part, world_part:
+            part(int(word))

@@ -1,8 +1,8 @@
 //! Graphs of numbers.
 
 use super::random::Random;
-use super::sums::{increment, Report, Sum};
-use slotmap_proved::fallible::TryClone;
+use super::sums::{add_exact, add_within, increment, Report, Sum};
+use slotmap_proved::fallible::TryClone as _;
 use slotmap_proved::graph::{EdgeKey, EdgesAt, Graph};
 use slotmap_proved::{Global, NodeKey};
 
@@ -121,11 +121,11 @@ fn sum_by_steps(graph: &Numbers) -> Sum {
 /// The lengths of the iterators over edges after so many, and of that over nodes to its end.
 fn sum_of_lengths(graph: &Numbers, node: NodeKey, steps: usize) -> Sum {
     let mut sum = Sum::new();
-    sum.add_exact(graph.edge_references(), steps);
-    sum.add_exact(graph.edge_references_from(node), steps);
-    sum.add_exact(graph.edge_references_to(node), steps);
-    sum.add_exact(graph.edges_from(node), steps);
-    sum.add_within(graph.neighbours_to(node), graph.edge_count());
+    add_exact(&mut sum, graph.edge_references(), steps);
+    add_exact(&mut sum, graph.edge_references_from(node), steps);
+    add_exact(&mut sum, graph.edge_references_to(node), steps);
+    add_exact(&mut sum, graph.edges_from(node), steps);
+    add_within(&mut sum, graph.neighbours_to(node), graph.edge_count());
     sum
 }
 
@@ -150,7 +150,7 @@ fn search(report: &mut Report, graph: &Numbers, node: NodeKey) {
     report.tell("neighbours", sum_of_nodes(graph, &graph.neighbours(Global, node).expect("memory")));
     report.tell("beside", sum_beside(graph, node));
     report.tell("along", sum_along(graph, node));
-    report.tell("from back", sum_from_back(graph, TryClone::clone(&graph.edges_to(node)).expect("it asks for none")));
+    report.tell("from back", sum_from_back(graph, graph.edges_to(node).clone().expect("it asks for none")));
     report.tell("with ends", sum_of_edges_at(graph, node));
     report.tell("lengths", sum_of_lengths(graph, node, 2));
     report.tell("reachable", sum_of_nodes(graph, &graph.reachable(Global, node).expect("memory")));

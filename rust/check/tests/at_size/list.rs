@@ -1,7 +1,7 @@
 //! Lists of numbers.
 
 use super::random::Random;
-use super::sums::{increment, Report, Sum};
+use super::sums::{add_exact, add_within, increment, Report, Sum};
 use slotmap_proved::list::{Cursor, StableList};
 use slotmap_proved::Global;
 
@@ -67,10 +67,10 @@ fn sum_by_loops(list: &Numbers) -> Sum {
 /// The lengths of the iterators: after half the elements, and of the last one to its end.
 fn sum_of_lengths(list: &Numbers) -> Sum {
     let (mut sum, half) = (Sum::new(), list.len() / 2);
-    sum.add_exact(list.iter(), half);
-    sum.add_exact(list.cursors(), half);
-    sum.add_exact(list.values(), half);
-    sum.add_within(list.iter_from(list.first().unwrap_or_default()), list.len());
+    add_exact(&mut sum, list.iter(), half);
+    add_exact(&mut sum, list.cursors(), half);
+    add_exact(&mut sum, list.values(), half);
+    add_within(&mut sum, list.iter_from(list.first().unwrap_or_default()), list.len());
     sum
 }
 
@@ -179,9 +179,9 @@ fn consume(list: Numbers) -> Sum {
 /// The lengths of the iterators that take all elements out of two lists, after so many.
 fn sum_of_taken(mut list: Numbers, other: Numbers, steps: usize) -> Sum {
     let mut sum = Sum::new();
-    sum.add_exact(list.drain(), steps);
+    add_exact(&mut sum, list.drain(), steps);
     sum.add(list.len() as u64);
-    sum.add_exact(other.into_iter(), steps);
+    add_exact(&mut sum, other.into_iter(), steps);
     sum
 }
 

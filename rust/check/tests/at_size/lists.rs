@@ -1,7 +1,7 @@
 //! Several lists of numbers in one map.
 
 use super::random::Random;
-use super::sums::{increment, Report, Sum};
+use super::sums::{add_exact, increment, Report, Sum};
 use slotmap_proved::lists::{Cursor, StableLists};
 use slotmap_proved::Global;
 
@@ -36,14 +36,14 @@ fn add_from_back(sum: &mut Sum, lists: &Numbers, list: usize) {
 
 /// The numbers of a list by its iterator, each also by its cursor, then those from back to front, and the length after two elements.
 fn add_by_iterator(sum: &mut Sum, lists: &Numbers, list: usize) {
-    let elements = || lists.iter(list).expect("this list is there");
-    for (cursor, value) in elements() {
+    let there = "this list is there";
+    for (cursor, value) in lists.iter(list).expect(there) {
         assert!(lists.contains(cursor));
         sum.add(lists[cursor]);
         sum.add(*value);
     }
-    sum.extend(elements().rev().map(|element| *element.1));
-    sum.add_exact(elements(), 2);
+    sum.extend(lists.iter(list).expect(there).rev().map(|element| *element.1));
+    add_exact(sum, lists.iter(list).expect(there), 2);
 }
 
 /// The numbers of all lists in each of these ways. The list behind the last one isn't there.

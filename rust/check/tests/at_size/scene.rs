@@ -1,8 +1,8 @@
 //! Scenes of numbers: wide, deep, and by chance.
 
 use super::random::Random;
-use super::sums::{increment, Report, Sum};
-use slotmap_proved::fallible::TryClone;
+use super::sums::{add_exact, add_within, increment, Report, Sum};
+use slotmap_proved::fallible::TryClone as _;
 use slotmap_proved::scene::world::Offset;
 use slotmap_proved::scene::{AddError, MoveError, Scene, Visit};
 use slotmap_proved::{DefaultKey, Global};
@@ -60,6 +60,11 @@ fn sum_of_live(scene: &Numbers, nodes: &[DefaultKey]) -> Sum {
     nodes.iter().for_each(|node| sum.add_if(scene.contains_key(*node)));
     sum.extend([scene.iter().len(), scene.keys().len(), scene.values().len()].map(|length| length as u64));
     sum
+}
+
+/// The numbers of a node's children, by a copy of their iterator.
+fn sum_of_children(scene: &Numbers, node: DefaultKey) -> Sum {
+    sum_of_nodes(scene, scene.children(node).clone().expect("it asks for none"))
 }
 
 /// Adds the numbers below `count` beside nodes.
@@ -132,8 +137,7 @@ fn run_wide(report: &mut Report, size: u64) {
     report.tell("by steps", sum_by_steps(&scene, root));
     report.tell("moves beside", move_some(&mut scene, &nodes, &mut random, size.min(1000)));
     report.tell("by steps", sum_by_steps(&scene, root));
-    let children = TryClone::clone(&scene.children(root)).expect("it asks for none");
-    report.tell("children", sum_of_nodes(&scene, children));
+    report.tell("children", sum_of_children(&scene, root));
 }
 
 /// A root with all others below it, each the only child of the one above. Then a copy, and what is left without the root.
@@ -193,20 +197,20 @@ fn sum_of_visits(scene: &Numbers, node: DefaultKey) -> Sum {
 /// The lengths of the iterators over all nodes and over children, after so many.
 fn sum_of_lengths(scene: &Numbers, root: DefaultKey, steps: usize) -> Sum {
     let mut sum = Sum::new();
-    sum.add_exact(scene.iter(), steps);
-    sum.add_exact(scene.keys(), steps);
-    sum.add_exact(scene.values(), steps);
-    sum.add_exact(scene.children(root), steps);
+    add_exact(&mut sum, scene.iter(), steps);
+    add_exact(&mut sum, scene.keys(), steps);
+    add_exact(&mut sum, scene.values(), steps);
+    add_exact(&mut sum, scene.children(root), steps);
     sum
 }
 
 /// How many nodes there are on the ways up and down, above a node and below a root.
 fn sum_of_ways(scene: &Numbers, root: DefaultKey, node: DefaultKey) -> Sum {
     let (mut sum, most) = (Sum::new(), scene.len());
-    sum.add_within(scene.ancestors(node), most);
-    sum.add_within(scene.roots(), most);
-    sum.add_within(scene.keys_below(root), most);
-    sum.add_within(scene.walk(root), most * 2);
+    add_within(&mut sum, scene.ancestors(node), most);
+    add_within(&mut sum, scene.roots(), most);
+    add_within(&mut sum, scene.keys_below(root), most);
+    add_within(&mut sum, scene.walk(root), most * 2);
     sum
 }
 

@@ -1,7 +1,7 @@
 //! Schedulers of numbers.
 
 use super::random::Random;
-use super::sums::{increment, Report, Sum};
+use super::sums::{add_exact, increment, Report, Sum};
 use slotmap_proved::fallible::Vec as ProvedVec;
 use slotmap_proved::scheduler::Scheduler;
 use slotmap_proved::{DefaultKey, Global};
@@ -54,15 +54,15 @@ fn sum_of_waiting(scheduler: &Numbers, handles: &[DefaultKey]) -> Sum {
     sum
 }
 
-/// The lengths of the iterators after so many jobs. The last two take all jobs out of copies.
-fn sum_of_lengths(scheduler: &Numbers, steps: usize) -> Sum {
-    let (mut sum, mut copy) = (Sum::new(), scheduler.clone().expect("memory"));
-    sum.add_exact(scheduler.iter(), steps);
-    sum.add_exact(scheduler.keys(), steps);
-    sum.add_exact(scheduler.values(), steps);
-    sum.add_exact(copy.drain(), steps);
-    sum.add(copy.len() as u64);
-    sum.add_exact(scheduler.clone().expect("memory").into_iter(), steps);
+/// The lengths of the iterators after so many jobs. The last two take all jobs out.
+fn sum_of_lengths(mut scheduler: Numbers, other: Numbers, steps: usize) -> Sum {
+    let mut sum = Sum::new();
+    add_exact(&mut sum, scheduler.iter(), steps);
+    add_exact(&mut sum, scheduler.keys(), steps);
+    add_exact(&mut sum, scheduler.values(), steps);
+    add_exact(&mut sum, scheduler.drain(), steps);
+    sum.add(scheduler.len() as u64);
+    add_exact(&mut sum, other.into_iter(), steps);
     sum
 }
 
@@ -173,7 +173,7 @@ fn copy(report: &mut Report, scheduler: &mut Numbers, handles: &[DefaultKey]) {
         add_taken(&mut in_order, &copy, job);
     }
     report.tell("in order", in_order);
-    report.tell("lengths", sum_of_lengths(&copy, 2));
+    report.tell("lengths", sum_of_lengths(copy.clone().expect("memory"), copy.clone().expect("memory"), 2));
     retain_and_drain(report, copy.clone().expect("memory"), &copy, handles);
     let mut other = copy.clone().expect("memory");
     report.tell("with times", pop_with_times(&mut other, &copy, 700));

@@ -29,26 +29,26 @@ impl Sum {
     pub fn add_found(&mut self, number: Option<&u64>) {
         self.add(*number.unwrap_or(&u64::MAX));
     }
+}
 
-    /// Takes so many steps of an iterator. Adds how many elements there were, and how many it says are left. Its size hints, and its
-    /// length before and after these steps, have to say the same.
-    pub fn add_exact<I: ExactSizeIterator>(&mut self, mut walk: I, steps: usize) {
-        let whole = walk.len();
-        assert_eq!(walk.size_hint(), (whole, Some(whole)));
-        let taken = walk.by_ref().take(steps).count();
-        let left = walk.len();
-        assert_eq!((walk.size_hint(), taken + left), ((left, Some(left)), whole));
-        self.extend([taken as u64, left as u64]);
-    }
+/// Takes so many steps of an iterator. Adds how many elements there were, and how many it says are left. Its size hints, and its length
+/// before and after these steps, have to say the same.
+pub fn add_exact<I: ExactSizeIterator>(sum: &mut Sum, mut walk: I, steps: usize) {
+    let whole = walk.len();
+    assert_eq!(walk.size_hint(), (whole, Some(whole)));
+    let taken = walk.by_ref().take(steps).count();
+    let left = walk.len();
+    assert_eq!((walk.size_hint(), taken + left), ((left, Some(left)), whole));
+    sum.extend([taken as u64, left as u64]);
+}
 
-    /// Walks to the end of an iterator of at most so many elements, and adds how many there were. Its size hint has to allow that, and no
-    /// more at the end.
-    pub fn add_within<I: Iterator>(&mut self, mut walk: I, most: usize) {
-        let hint = walk.size_hint();
-        let count = walk.by_ref().take(most).count();
-        assert!(allows(hint, count) && allows(walk.size_hint(), 0), "{hint:?} of {count}, and then {:?}", walk.size_hint());
-        self.add(count as u64);
-    }
+/// Walks to the end of an iterator of at most so many elements, and adds how many there were. Its size hint has to allow that, and no more at
+/// the end.
+pub fn add_within<I: Iterator>(sum: &mut Sum, mut walk: I, most: usize) {
+    let hint = walk.size_hint();
+    let count = walk.by_ref().take(most).count();
+    assert!(allows(hint, count) && allows(walk.size_hint(), 0), "{hint:?} of {count}, and then {:?}", walk.size_hint());
+    sum.add(count as u64);
 }
 
 /// Whether a size hint allows so many elements.

@@ -1,7 +1,7 @@
 //! Worlds of numbers, with numbers as components: in a `SecondaryMap`, and in a `SparseSecondaryMap`.
 
 use super::random::Random;
-use super::sums::{increment, Report, Sum};
+use super::sums::{add_within, increment, Report, Sum};
 use slotmap_proved::entities::{First, Kind, Second, Table, Tables, Third, World};
 use slotmap_proved::errors::ReserveError;
 use slotmap_proved::fallible::{SecondaryMap, SparseSecondaryMap};
@@ -89,11 +89,11 @@ fn sum_with_optional(world: &Numbers<OfTwo>) -> Sum {
 /// How many entities each iterator yields.
 fn sum_of_lengths(world: &Numbers<OfTwo>) -> Sum {
     let (mut sum, most) = (Sum::new(), world.len());
-    sum.add_within(world.with::<First>(), most);
-    sum.add_within(world.with_both::<First, Second>(), most);
-    sum.add_within(world.with_three::<First, Second, First>(), most);
-    sum.add_within(world.with_without::<Second, First>(), most);
-    sum.add_within(world.with_optional::<First, Second>(), most);
+    add_within(&mut sum, world.with::<First>(), most);
+    add_within(&mut sum, world.with_both::<First, Second>(), most);
+    add_within(&mut sum, world.with_three::<First, Second, First>(), most);
+    add_within(&mut sum, world.with_without::<Second, First>(), most);
+    add_within(&mut sum, world.with_optional::<First, Second>(), most);
     sum
 }
 
