@@ -348,8 +348,8 @@ module _ {K : Type 0} (data_of : K → Key) where
 
   -- by what the calls of a step leave
   module _ {N E : Type 0} (s : Seen N E) (joined : IsJoined s) (well : IsContent true s.nodes) (found : Found) (opened : List (Open K)) (left : List K) (at : Open K) where
-    abbrev here : Key
-    here = data_of at.node
+    abbrev innermost : Key
+    innermost = data_of at.node
 
     abbrev behind : List OpenNode
     behind = opened_by data_of opened
@@ -364,28 +364,28 @@ module _ {K : Type 0} (data_of : K → Key) where
       pub leaves_node : (now : List K) → now ≡ left ++ at.node ∷ [] → (before : Found) (start : Key) → IsVisiting before start
           → SearchesFrom s before start found behind (list_map data_of now)
       leaves_node now is before start v = rw (ap (list_map data_of) is ∙ map-append data_of left (at.node ∷ []))
-          (visiting_left s joined well before start found here behind done (rw none at v))
+          (visiting_left s joined well before start found innermost behind done (rw none at v))
 
     module _ (k : Key) (some : at.next ≡ Some k) (after : Option Key)
         (along : (node : Key) → 0 < times k (edges_at s.out node) → after ≡ key_after k (edges_at s.out node)) (mid : List (Open K))
         (stays : mid ≡ opened ++ record { node = at.node; next = after } ∷ []) (before : Found) (start : Key) (v : IsVisiting before start) where
-      this : SearchesFrom s before start found ((here, Some k) ∷ behind) done
+      this : SearchesFrom s before start found ((innermost, Some k) ∷ behind) done
       this = rw some at v
 
-      pub edge_here : (e : SeenEdge E) × (map.get s.edges.live k ≡ Some e) × (e.from ≡ here)
-      edge_here = next_edge s joined well before start found here k behind done this
+      pub edge_here : (e : SeenEdge E) × (map.get s.edges.live k ≡ Some e) × (e.from ≡ innermost)
+      edge_here = next_edge s joined well before start found innermost k behind done this
 
-      mid_is : opened_by data_of mid ≡ (here, key_after k (edges_at s.out here)) ∷ behind
+      mid_is : opened_by data_of mid ≡ (innermost, key_after k (edges_at s.out innermost)) ∷ behind
       mid_is = ap (opened_by data_of) stays ∙ opened_pushed opened (record { node = at.node; next = after })
-          ∙ ap (λ o. (here, o) ∷ behind) (along here (next_listed s joined well before start found here k behind done this))
+          ∙ ap (λ o. (innermost, o) ∷ behind) (along innermost (next_listed s joined well before start found innermost k behind done this))
 
       module _ (a to : Key) (ends_there : Some (a, to) ≡ option_map ends (map.get s.edges.live k)) (new : Found) (opened' : List OpenNode)
           (enters : Enters s found (opened_by data_of mid) to new opened') where
         pub follows_edge : SearchesFrom s before start new opened' done
-        follows_edge = visiting_followed s joined well before start found here k behind done this new opened' to a ends_there (rw mid_is at enters)
+        follows_edge = visiting_followed s joined well before start found innermost k behind done this new opened' to a ends_there (rw mid_is at enters)
 
         pub follows_less : work_left s new opened' < work_left s found (open_node data_of at ∷ behind)
-        follows_less = rw some (work_followed s joined well before start found here k behind done this new opened' to a ends_there (rw mid_is at enters))
+        follows_less = rw some (work_followed s joined well before start found innermost k behind done this new opened' to a ends_there (rw mid_is at enters))
 
 -- one more node was visited
 pub visited_more : {N E : Type 0} (s : Seen N E) (before found : Found) (y : Key) (left : List Key) → SearchesFrom s before y found [] left → (done : List Key)
