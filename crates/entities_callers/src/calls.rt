@@ -49,8 +49,7 @@ where
         done
     }
 
-    // The entities with components, each before the components: those of both kinds, those of the second one without and with the first
-    // one, and those of the first one.
+    // The entities with both components, with the second one alone, with the second one, and with the first one: each before its components.
     fn sum_of_joins(world: &Numbers<T>) -> Sum {
         let mut sum = EMPTY;
         for (key, first, second) in world.with_both::<F, S>() {

@@ -8,11 +8,10 @@ type Net = Graph<NodeKey, u64, u64>;
 
 // Adds nodes of the numbers below `SIZE`, with an edge to each from the hub, a path through them, and edges by chance.
 fn build(graph: &mut Net, hub: NodeKey, nodes: &mut Vec<NodeKey>) -> bool {
-    let mut done = graph.reserve_edges(SIZE as usize).is_ok();
+    let (mut done, mut last) = (graph.reserve_edges(SIZE as usize).is_ok(), hub);
     for number in 0..SIZE {
         done &= keep(nodes, graph.add_node(number).ok());
     }
-    let mut last = NodeKey::default();
     for (value, node) in nodes.iter().enumerate() {
         let (value, other) = (value as u64, pick(nodes.as_slice(), value as u64));
         done &= graph.add_edge(hub, *node, value).is_ok();
@@ -108,13 +107,15 @@ fn search(rt: &HostRuntime, graph: &Net, hub: NodeKey, last: NodeKey) -> bool {
         && tell_nodes(rt, "in order", graph, graph.topological_order(rt.alloc()))
 }
 
-// Adds an edge that closes a cycle, in whose way no order is, and removes it.
+// The edge that stands in the way of an order.
+fn closing(rt: &HostRuntime, graph: &Net) -> Option<EdgeKey> {
+    graph.topological_order(rt.alloc()).err()?.edge()
+}
+
+// Adds an edge that closes a cycle, which is in the way of an order, and removes it.
 fn close(rt: &HostRuntime, graph: &mut Net, from: NodeKey, to: NodeKey) -> bool {
     let back = graph.add_edge(from, to, 7).unwrap_or_default();
-    let closing = match graph.topological_order(rt.alloc()) {
-        Ok(_) => EdgeKey::default(),
-        Err(error) => error.edge().unwrap_or_default(),
-    };
+    let closing = closing(rt, graph).unwrap_or_default();
     graph.contains_edge(closing)
         && graph.find_edge(from, to) == Some(back)
         && graph.edge_ends(back) == Some((from, to))
