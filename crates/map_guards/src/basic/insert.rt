@@ -90,7 +90,9 @@ pub fn try_insert_with_key<K: Key, V: Drop, E, F: FnOnce(K) -> Result<V, E> + Dr
     ensures try_insert_with_key_with_room_keeps_the_capacity { 0 < store.old.room → store.new.capacity ≡ store.old.capacity }
     // Where there is room, it fails only with the closure's error for the new key.
     // Holds by `err` of `try_insert_with_key`.
-    ensures error_of_the_closure_comes_back { 0 < store.old.room → IfErr result (λ error. (e : E) × (error ≡ TryInsertError.Closure e) × ((key : K) × (K.data_of key ≡ store.old.offer) × F.post f key (Err e))) }
+    ensures error_of_the_closure_comes_back { 0 < store.old.room →
+        IfErr result (λ error. (e : E) × (error ≡ TryInsertError.Closure e) ×
+        ((key : K) × (K.data_of key ≡ store.old.offer) × F.post f key (Err e))) }
     // Where a slot is vacant, memory can't run out.
     // Holds by `reuses` of `try_insert_with_key`.
     ensures try_insert_with_key_into_a_vacant_slot_needs_no_memory { HasVacant store.old → result ≢ Err TryInsertError.Memory }

@@ -16,12 +16,14 @@ pub fn remove<K: Key, V: Drop>(store: &mut SlotMap<K, V>, key: K) -> Option<V>
     // Before the last key of a slot is removed, the slot isn't retired: it is vacant, and its next key
     // is newer. There is room for one key more.
     // Refuses `remove_keeps_the_place`: `value` and `removes` of `remove`.
-    ensures removed_slot_is_vacant_next { IsLive store.old (K.data_of key) → is_last (K.data_of key) ≡ false → store.new.next ≡ map.insert store.old.next (K.data_of key).index (next_version (K.data_of key)) }
+    ensures removed_slot_is_vacant_next { IsLive store.old (K.data_of key) → is_last (K.data_of key) ≡ false →
+        store.new.next ≡ map.insert store.old.next (K.data_of key).index (next_version (K.data_of key)) }
     ensures removed_slot_is_vacant_retired { IsLive store.old (K.data_of key) → is_last (K.data_of key) ≡ false → store.new.retired ≡ store.old.retired }
     ensures removed_slot_is_vacant_room { IsLive store.old (K.data_of key) → is_last (K.data_of key) ≡ false → store.old.room + 1 ≤ store.new.room }
     // The slot is the next that is reused.
     // Holds by `value` and `removes` of `remove`.
-    ensures removed_slot_is_reused_first { IsLive store.old (K.data_of key) → is_last (K.data_of key) ≡ false → (rest : List ℕ) → store.old.stack ≡ Some rest → store.new.stack ≡ Some ((K.data_of key).index ∷ rest) }
+    ensures removed_slot_is_reused_first { IsLive store.old (K.data_of key) → is_last (K.data_of key) ≡ false →
+        (rest : List ℕ) → store.old.stack ≡ Some rest → store.new.stack ≡ Some ((K.data_of key).index ∷ rest) }
     // The slot of a last key is never vacant again.
     // Holds by `value` and `removes` of `remove`.
     ensures last_key_retires_its_slot_retired { IsLive store.old (K.data_of key) → is_last (K.data_of key) ≡ true → store.new.retired ≡ set.insert store.old.retired (K.data_of key) }

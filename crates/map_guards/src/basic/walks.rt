@@ -23,7 +23,8 @@ pub fn next_after<K: Key, V: Drop>(store: &SlotMap<K, V>, key: K) -> Option<(K, 
     // Refuses `next_after_passes_a_key_over`, `next_after_passes_a_near_slot_over`,
     // `next_after_searches_on_past_the_first_key`, `next_after_searches_past_the_near_slots`: `first`
     // of `next_after`.
-    ensures next_after_passes_no_live_key_over { (other : KeyOf) → IsLive store.now other → (K.data_of key).index < other.index → IfSome result (λ found. (K.data_of found.0).index ≤ other.index) }
+    ensures next_after_passes_no_live_key_over { (other : KeyOf) → IsLive store.now other →
+        (K.data_of key).index < other.index → IfSome result (λ found. (K.data_of found.0).index ≤ other.index) }
     // It returns `None` only where no live key comes after the key.
     // Refuses `next_after_stops_after_the_near_slots`: `none` of `next_after`.
     ensures next_after_finds_a_key_while_there_is_one { (other : KeyOf) → IsLive store.now other → (K.data_of key).index < other.index → IsSome result }

@@ -64,7 +64,8 @@ pub fn len<K: Key, V: Drop>(store: &DenseSlotMap<K, V>) -> usize
     ensures len_counts_live_keys { result ≡ map.len store.now.content.live }
     // The map offers the index that was freed last.
     // Holds by `valid` of each call.
-    ensures slot_freed_last_is_offered { (index : ℕ) (rest : List ℕ) → used store.now.content < most → store.now.content.stack ≡ Some (index ∷ rest) → store.now.content.offer.index ≡ index }
+    ensures slot_freed_last_is_offered { (index : ℕ) (rest : List ℕ) → used store.now.content < most →
+        store.now.content.stack ≡ Some (index ∷ rest) → store.now.content.offer.index ≡ index }
     // The keys with the values at their positions are the live keys with their values.
     // Holds by `valid` of each call.
     ensures packed_keys_are_the_live_keys { IsListing store.now.content.live (zip store.now.keys store.now.values) }

@@ -2,7 +2,8 @@
 
 ghost use Rattle.std.specs.FinMap as map;
 ghost use Rattle.std.specs.Prelude.{◌≡◌, IfOk, IfErr, IsOk, true, length};
-ghost use Rattle.slotmap_core.specs.Words.{Key as KeyOf, IsContent, IsCloneOf, ClonesEqual, start_live, StartsFrom, Accepts, list_limit, RefusesStart, Writes, WritesClones, Restores, Bool, read_slots, Content};
+ghost use Rattle.slotmap_core.specs.Words.{Key as KeyOf, IsContent, IsCloneOf, ClonesEqual, start_live, StartsFrom};
+ghost use Rattle.slotmap_core.specs.Words.{Accepts, list_limit, RefusesStart, Writes, WritesClones, Restores, Bool, read_slots, Content};
 ghost use Rattle.slotmap_hop.specs.Blocks.{Ascend};
 
 use slotmap_core::errors::{OutOfMemory, SlotsError};

@@ -113,7 +113,8 @@ where
     requires makes { N.IsAlwaysCallable make }
     // The replies are a run of the machine from the empty state.
     // Refuses `run_detaching_new_hands_back_an_empty_list`: `run` of `run_detaching_new`.
-    ensures run_detaching_new_replies_as_the_machine_run { let what = given K.data_of L.Fn look P.Fn keep N.Fn make M.REUSES in IfOk result (λ made. RunsAnew (DetachStep what) commands.items made.1.items (M.content made.0)) }
+    ensures run_detaching_new_replies_as_the_machine_run { let what = given K.data_of L.Fn look P.Fn keep N.Fn make M.REUSES in
+        IfOk result (λ made. RunsAnew (DetachStep what) commands.items made.1.items (M.content made.0)) }
     // No two inserts return one key.
     // Holds by `laws` of `run_detaching_new`.
     ensures run_detaching_new_returns_no_key_twice_once { IfOk result (λ made. NoKeyTwice K.data_of made.1.items) }
