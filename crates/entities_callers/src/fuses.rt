@@ -22,6 +22,7 @@ fn burn_one(world: &mut World<DefaultKey, u8, Fuses>, key: DefaultKey)
 }
 
 /// Removes each entity whose fuse is at 0, and takes one from the fuses of all others.
+#[tactic(auto, using(slotmap::proofs::Callers::keys))]
 pub fn burn(world: &mut World<DefaultKey, u8, Fuses>)
     ensures over { (k : KeyOf) → IsLive world.new.entities.content k → get world.old.tables.0.pairs k ≢ Some 0 }
     ensures burning { (k : KeyOf) → IsLive world.old.entities.content k → get world.old.tables.0.pairs k ≢ Some 0

@@ -8,6 +8,7 @@ use slotmap::{DefaultKey, InsertError};
 use slotmap_entities::{Tables, World};
 
 /// Removes an entity, and adds another one, which has nothing of it, whatever the tables are.
+#[tactic(auto, using(slotmap::proofs::Callers::keys))]
 pub fn reborn<T: Tables<DefaultKey>>(
     world: &mut World<DefaultKey, u8, T>,
     key: DefaultKey,

@@ -11,6 +11,7 @@ type Lives = First;
 type Health = (SecondaryMap<DefaultKey, u64>, ());
 
 /// Removes each entity that has no life left. All others have as many as before.
+#[tactic(auto, using(slotmap::proofs::Callers::keys))]
 pub fn reap(world: &mut World<DefaultKey, u8, Health>)
     ensures alive { (k : KeyOf) → IsLive world.new.entities.content k → get world.new.tables.0.pairs k ≢ Some 0 }
     ensures others { (k : KeyOf) → IsLive world.old.entities.content k → get world.old.tables.0.pairs k ≢ Some 0

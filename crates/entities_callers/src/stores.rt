@@ -71,6 +71,7 @@ pub fn refilled_world<T: Tables<DefaultKey>>(
 }
 
 /// Spawns an entity and removes it again. It had no component, whatever the tables are.
+#[tactic(auto, using(slotmap::proofs::Callers::keys))]
 pub fn come_and_go<T: Tables<DefaultKey>>(
     world: &mut World<DefaultKey, u8, T>,
     entity: u8,
