@@ -34,7 +34,8 @@
  * is assigned. It must not insert there: the array may move.
  *
  * Many threads may read one of them at once by its const calls, but for copying it, which takes a thread alone, as do all calls that
- * aren't const. That a read writes nothing is tested; the proof of slotmap.h presumes one call at a time.
+ * aren't const. Of these `begin` alone may write, and only a number that is atomic: where the first value is. All this is tested; the
+ * proof of slotmap.h presumes one call at a time.
  */
 #ifndef SLOTMAP_HPP
 #define SLOTMAP_HPP
@@ -99,9 +100,12 @@ public:
         std::swap(vacant, other.vacant);
     }
     friend void swap(slot_map &a, slot_map &b) noexcept { a.swap(b); }
+    /* Whether they have the same keys with equal values. What keys they make next may differ. */
+    friend bool operator==(const slot_map &a, const slot_map &b) { return detail::equal(a, b); }
+    friend bool operator!=(const slot_map &a, const slot_map &b) { return !(a == b); }
 
     /* For how many slots there is memory, for the keys and in the array. */
-    std::size_t capacity() const noexcept { return std::min(values.capacity(), slotmap_keys_capacity(keys.get())); }
+    [[nodiscard]] std::size_t capacity() const noexcept { return std::min(values.capacity(), slotmap_keys_capacity(keys.get())); }
     /* The next `more` calls of `insert` or `emplace` get no memory, but for what the values themselves ask for. */
     void reserve(std::size_t more)
     {
@@ -109,7 +113,7 @@ public:
         values.make_room(values.size() + (more > vacant ? more - vacant : 0));
     }
 
-    template <class... Arguments> key_type emplace(Arguments &&...arguments)
+    template <class... Arguments> [[nodiscard]] key_type emplace(Arguments &&...arguments)
     {
         /* First, since an argument may be a value of this map. */
         T value(std::forward<Arguments>(arguments)...);
@@ -121,8 +125,8 @@ public:
         fill(made.id, value, [&] { remove(made.id); });
         return made;
     }
-    key_type insert(const T &value) { return emplace(value); }
-    key_type insert(T &&value) { return emplace(std::move(value)); }
+    [[nodiscard]] key_type insert(const T &value) { return emplace(value); }
+    [[nodiscard]] key_type insert(T &&value) { return emplace(std::move(value)); }
 
     /* Removes a live key, and returns its value. */
     std::optional<T> erase(key_type at)
@@ -137,7 +141,7 @@ public:
         std::uint64_t id = at.id;
         values.drop(at);
         remove(id);
-        return iterator(&at, values.end());
+        return this->next_after(at);
     }
     /* Takes the value of a live key out, and keeps the slot for the key. */
     std::optional<T> detach(key_type at)
@@ -164,7 +168,8 @@ public:
     }
 };
 
-/* Erases every key for which `matches` returns true of the pair of a key and its value, and returns how many these were. */
+/* Erases every key for which `matches` returns true of the pair of a key and its value, and returns how many keys fewer there are:
+ * what the destructors erase meanwhile counts too. `matches` may take the pair as `auto`, as `auto &` or as `const auto &`. */
 template <class T, class Tag, class Matches> std::size_t erase_if(slot_map<T, Tag> &map, Matches matches)
 {
     return detail::erase_if(map, matches);
@@ -201,9 +206,11 @@ public:
     ~side_map() { values.drop_all(); }
     void swap(side_map &other) noexcept { values.swap(other.values); }
     friend void swap(side_map &a, side_map &b) noexcept { a.swap(b); }
+    friend bool operator==(const side_map &a, const side_map &b) { return detail::equal(a, b); }
+    friend bool operator!=(const side_map &a, const side_map &b) { return !(a == b); }
 
     /* The largest index for which there is memory. */
-    std::size_t capacity() const noexcept { return values.capacity(); }
+    [[nodiscard]] std::size_t capacity() const noexcept { return values.capacity(); }
     /* Makes sure of memory for each index up to a number. */
     void reserve(std::size_t index)
     {
@@ -244,14 +251,14 @@ public:
     {
         place &at = base::place_at(where);
         values.drop(at);
-        /* The destructor may have cleared the map: then it ends before this place. */
-        return iterator(std::min(&at, values.end()), values.end());
+        return this->next_after(at);
     }
     /* Removes every key. The capacity stays. */
     void clear() noexcept { values.drop_all(); }
 };
 
-/* Erases every key for which `matches` returns true of the pair of a key and its value, and returns how many these were. */
+/* Erases every key for which `matches` returns true of the pair of a key and its value, and returns how many keys fewer there are:
+ * what the destructors erase meanwhile counts too. `matches` may take the pair as `auto`, as `auto &` or as `const auto &`. */
 template <class T, class Tag, class Matches> std::size_t erase_if(side_map<T, Tag> &map, Matches matches)
 {
     return detail::erase_if(map, matches);

@@ -9,6 +9,7 @@
 #include "slotmap.h"
 
 #include <algorithm>
+#include <atomic>
 #include <cstddef>
 #include <cstdint>
 #include <cstdlib>
@@ -21,6 +22,9 @@
 #include <stdexcept>
 #include <type_traits>
 #include <utility>
+#if __cplusplus >= 202002L
+#include <compare>
+#endif
 
 namespace slotmaps {
 
@@ -31,9 +35,16 @@ template <class Tag = void> struct typed_key {
     explicit operator bool() const noexcept { return id != 0; }
     std::uint32_t index() const noexcept { return static_cast<std::uint32_t>(id); }
     std::uint32_t version() const noexcept { return static_cast<std::uint32_t>(id >> 32); }
-    friend bool operator==(typed_key a, typed_key b) noexcept { return a.id == b.id; }
-    friend bool operator!=(typed_key a, typed_key b) noexcept { return a.id != b.id; }
-    friend bool operator<(typed_key a, typed_key b) noexcept { return a.id < b.id; }
+    friend constexpr bool operator==(typed_key a, typed_key b) noexcept { return a.id == b.id; }
+#if defined(__cpp_lib_three_way_comparison)
+    friend constexpr std::strong_ordering operator<=>(typed_key a, typed_key b) noexcept { return a.id <=> b.id; }
+#else
+    friend constexpr bool operator!=(typed_key a, typed_key b) noexcept { return a.id != b.id; }
+    friend constexpr bool operator<(typed_key a, typed_key b) noexcept { return a.id < b.id; }
+    friend constexpr bool operator>(typed_key a, typed_key b) noexcept { return a.id > b.id; }
+    friend constexpr bool operator<=(typed_key a, typed_key b) noexcept { return a.id <= b.id; }
+    friend constexpr bool operator>=(typed_key a, typed_key b) noexcept { return a.id >= b.id; }
+#endif
 };
 using key = typed_key<>;
 
@@ -126,6 +137,35 @@ template <class Tag> std::uint64_t number_of(typed_key<Tag> at) noexcept
     return at.index() != 0 && at.index() != UINT32_MAX && at.version() % 2 == 1 ? at.id : SLOTMAP_NULL;
 }
 
+/* Where a walk may begin: so many places have no value. A walk notes where it met the first value, and the next one begins there. So
+ * erasing the first value again and again takes as long as one walk. Many threads may do this at once, since the number is atomic
+ * and each of them notes the same. */
+class lead {
+    std::atomic<std::size_t> passed{0};
+
+public:
+    lead() noexcept = default;
+    lead(const lead &other) noexcept : passed(other.get()) {}
+    lead &operator=(const lead &other) noexcept
+    {
+        set(other.get());
+        return *this;
+    }
+    std::size_t get() const noexcept { return passed.load(std::memory_order_relaxed); }
+    /* A walk that finds the number right writes nothing. */
+    void set(std::size_t to) noexcept
+    {
+        if (get() != to)
+            passed.store(to, std::memory_order_relaxed);
+    }
+    /* The place of an index, which begins at 1, has a value now. */
+    void reach(std::uint32_t index) noexcept
+    {
+        if (index <= get())
+            passed.store(std::size_t{index} - 1, std::memory_order_relaxed);
+    }
+};
+
 /* A place for a value, with the number of its key. A vacant place has a number of the index 4294967295, so no key is found there. */
 template <class T> struct place {
     static_assert(std::is_object<T>::value && std::is_move_constructible<T>::value, "a value is an object that can be moved");
@@ -150,6 +190,7 @@ template <class T> struct place {
 template <class T> class places {
     place<T> *first = nullptr;
     std::size_t used = 0, room = 0, live = 0;
+    mutable lead lowest;
 
     place<T> &add() noexcept
     {
@@ -162,6 +203,7 @@ template <class T> class places {
         places wider;
         wider.first = std::allocator<place<T>>().allocate(needed);
         wider.room = needed;
+        wider.lowest = lowest;
         if constexpr (std::is_trivially_copyable<T>::value) {
             std::copy_n(first, used, wider.first);
             wider.live = std::exchange(live, 0);
@@ -181,6 +223,7 @@ public:
     places(const places &other) : places()
     {
         make_room(other.used);
+        lowest = other.lowest;
         for (const place<T> &each : other) {
             place<T> &made = add();
             if (each.has_value())
@@ -200,6 +243,7 @@ public:
         std::swap(used, other.used);
         std::swap(room, other.room);
         std::swap(live, other.live);
+        std::swap(lowest, other.lowest);
     }
     std::size_t size() const noexcept { return used; }
     std::size_t capacity() const noexcept { return room; }
@@ -208,6 +252,17 @@ public:
     place<T> *end() noexcept { return first + used; }
     const place<T> *begin() const noexcept { return first; }
     const place<T> *end() const noexcept { return first + used; }
+    /* The first place with a value, or the end. */
+    place<T> *first_value() const noexcept
+    {
+        if (live == 0)
+            return first + used;
+        std::size_t found = lowest.get();
+        while (!first[found].has_value())
+            found++;
+        lowest.set(found);
+        return first + found;
+    }
 
     void make_room(std::size_t needed)
     {
@@ -233,6 +288,7 @@ public:
         ::new (static_cast<void *>(here.bytes)) T(std::forward<From>(from));
         here.id = id;
         live++;
+        lowest.reach(static_cast<std::uint32_t>(id));
     }
     /* Ends a value. Its place is vacant before, since its destructor may look for it. */
     void drop(place<T> &here) noexcept
@@ -249,6 +305,7 @@ public:
                 if (each.has_value())
                     drop(each);
         used = live = 0;
+        lowest.set(0);
     }
 };
 
@@ -311,6 +368,11 @@ protected:
     table(const table &) = default;
     ~table() = default;
     template <class Iterator> static place<T> &place_at(Iterator where) noexcept { return const_cast<place<T> &>(*where.at); }
+    /* The next value after a place that was erased. The destructor may have cleared the map: then it ends before this place. */
+    iterator_of<place<T>, T, typed_key<Tag>> next_after(place<T> &erased) noexcept
+    {
+        return {values.count() == 0 ? values.end() : std::min(&erased, values.end()), values.end()};
+    }
     /* Moves the value of a place to the caller, in one move. Its place is vacant then, and `end` does the rest. */
     template <class End> std::optional<T> move_out(place<T> &from, End end)
     {
@@ -329,41 +391,49 @@ public:
     using iterator = iterator_of<place<T>, T, key_type>;
     using const_iterator = iterator_of<const place<T>, const T, key_type>;
 
-    std::size_t size() const noexcept { return values.count(); }
-    bool empty() const noexcept { return size() == 0; }
+    [[nodiscard]] std::size_t size() const noexcept { return values.count(); }
+    [[nodiscard]] bool empty() const noexcept { return size() == 0; }
     /* The value of a key, or null. */
-    T *find(key_type at) noexcept
+    [[nodiscard]] T *find(key_type at) noexcept
     {
         place<T> *found = values.find(at.id);
         return found != nullptr ? std::addressof(found->value()) : nullptr;
     }
-    const T *find(key_type at) const noexcept { return const_cast<table *>(this)->find(at); }
-    bool contains(key_type at) const noexcept { return find(at) != nullptr; }
-    T &at(key_type where)
+    [[nodiscard]] const T *find(key_type at) const noexcept { return const_cast<table *>(this)->find(at); }
+    [[nodiscard]] bool contains(key_type at) const noexcept { return find(at) != nullptr; }
+    [[nodiscard]] T &at(key_type where)
     {
         if (T *value = find(where))
             return *value;
         fail<std::out_of_range>(slotmap_status_text(SLOTMAP_NOT_LIVE));
     }
-    const T &at(key_type where) const { return const_cast<table *>(this)->at(where); }
+    [[nodiscard]] const T &at(key_type where) const { return const_cast<table *>(this)->at(where); }
 
-    iterator begin() noexcept { return iterator(values.begin(), values.end()); }
-    iterator end() noexcept { return iterator(values.end(), values.end()); }
-    const_iterator begin() const noexcept { return const_cast<table *>(this)->begin(); }
-    const_iterator end() const noexcept { return const_cast<table *>(this)->end(); }
-    const_iterator cbegin() const noexcept { return begin(); }
-    const_iterator cend() const noexcept { return end(); }
+    [[nodiscard]] iterator begin() noexcept { return iterator(values.first_value(), values.end()); }
+    [[nodiscard]] iterator end() noexcept { return iterator(values.end(), values.end()); }
+    [[nodiscard]] const_iterator begin() const noexcept { return const_cast<table *>(this)->begin(); }
+    [[nodiscard]] const_iterator end() const noexcept { return const_cast<table *>(this)->end(); }
+    [[nodiscard]] const_iterator cbegin() const noexcept { return begin(); }
+    [[nodiscard]] const_iterator cend() const noexcept { return end(); }
 };
 
-/* Erases what `matches`, and returns how many these were. */
+/* Whether two maps have the same keys with equal values. What keys they make next may differ. */
+template <class Map> bool equal(const Map &a, const Map &b)
+{
+    return a.size() == b.size() && std::equal(a.begin(), a.end(), b.begin(), b.end());
+}
+
+/* Erases what `matches`, and returns how many keys fewer there are. */
 template <class Map, class Matches> std::size_t erase_if(Map &map, Matches matches)
 {
     std::size_t before = map.size();
-    for (auto at = map.begin(); at != map.end();)
-        if (matches(*at))
+    for (auto at = map.begin(); at != map.end();) {
+        auto pair = *at;
+        if (matches(pair))
             at = map.erase(at);
         else
             ++at;
+    }
     return before - map.size();
 }
 

@@ -45,36 +45,45 @@ template <class T> struct word {
 template <class T, class Tag = void> class word_map {
     using word = detail::word<T>;
     mutable detail::handle<slotmap_t, slotmap_new, slotmap_free, slotmap_clone> map;
+    mutable detail::lead lowest;
 
 public:
     using key_type = typed_key<Tag>;
 
     word_map() noexcept = default;
     word_map(word_map &&) noexcept = default;
-    word_map(const word_map &other) : map(other.map) {}
+    word_map(const word_map &other) : map(other.map), lowest(other.lowest) {}
     word_map &operator=(word_map other) noexcept
     {
-        map = std::move(other.map);
+        swap(other);
         return *this;
     }
 
-    void swap(word_map &other) noexcept { std::swap(map, other.map); }
+    void swap(word_map &other) noexcept
+    {
+        std::swap(map, other.map);
+        std::swap(lowest, other.lowest);
+    }
     friend void swap(word_map &a, word_map &b) noexcept { a.swap(b); }
+    /* Whether they have the same keys with equal values. What keys they make next may differ. */
+    friend bool operator==(const word_map &a, const word_map &b) { return detail::equal(a, b); }
+    friend bool operator!=(const word_map &a, const word_map &b) { return !(a == b); }
 
-    std::size_t size() const noexcept { return slotmap_len(map.get()); }
-    bool empty() const noexcept { return size() == 0; }
-    std::size_t capacity() const noexcept { return slotmap_capacity(map.get()); }
+    [[nodiscard]] std::size_t size() const noexcept { return slotmap_len(map.get()); }
+    [[nodiscard]] bool empty() const noexcept { return size() == 0; }
+    [[nodiscard]] std::size_t capacity() const noexcept { return slotmap_capacity(map.get()); }
     void reserve(std::size_t more) { detail::check(slotmap_reserve(map.opened(), more)); }
     void clear() noexcept { slotmap_clear(map.get()); }
 
-    key_type insert(const T &value)
+    [[nodiscard]] key_type insert(const T &value)
     {
         key_type made;
         detail::check(slotmap_insert(map.opened(), word::of(value), &made.id));
+        lowest.reach(made.index());
         return made;
     }
-    bool contains(key_type at) const noexcept { return slotmap_contains(map.get(), detail::number_of(at)); }
-    std::optional<T> get(key_type at) const
+    [[nodiscard]] bool contains(key_type at) const noexcept { return slotmap_contains(map.get(), detail::number_of(at)); }
+    [[nodiscard]] std::optional<T> get(key_type at) const
     {
         std::uint64_t number = 0;
         return word::found(slotmap_get(map.get(), detail::number_of(at), &number), number);
@@ -95,7 +104,13 @@ public:
         std::uint64_t number = 0;
         return word::found(slotmap_detach(map.get(), detail::number_of(at), &number), number);
     }
-    bool reattach(key_type at, const T &value) { return slotmap_reattach(map.get(), detail::number_of(at), word::of(value)) == SLOTMAP_OK; }
+    bool reattach(key_type at, const T &value)
+    {
+        if (slotmap_reattach(map.get(), detail::number_of(at), word::of(value)) != SLOTMAP_OK)
+            return false;
+        lowest.reach(at.index());
+        return true;
+    }
 
     /* By ascending index. The map may change during the iteration, but must not be moved. */
     class iterator {
@@ -111,7 +126,8 @@ public:
         using reference = value_type;
 
         iterator() noexcept = default;
-        explicit iterator(slotmap_t *over) : map(over) { ++*this; }
+        /* At the first key whose index is above that of another. */
+        explicit iterator(slotmap_t *over, key_type after = {}) : map(over), at(after) { ++*this; }
         iterator &operator++()
         {
             if (slotmap_next(map, at.id, &at.id, &number) != SLOTMAP_OK)
@@ -128,8 +144,15 @@ public:
         friend bool operator==(const iterator &a, const iterator &b) { return a.map == b.map && a.at == b.at; }
         friend bool operator!=(const iterator &a, const iterator &b) { return !(a == b); }
     };
-    iterator begin() const { return iterator(map.get()); }
-    iterator end() const { return iterator(); }
+    [[nodiscard]] iterator begin() const
+    {
+        if (empty())
+            return end();
+        iterator first(map.get(), key_type{lowest.get()});
+        lowest.set((*first).first.index() - 1);
+        return first;
+    }
+    [[nodiscard]] iterator end() const { return iterator(); }
 };
 
 /* Further values of at most 8 bytes under the keys of a map. It knows nothing of removals: erase a key here too. It takes 16 bytes for each
@@ -152,11 +175,13 @@ public:
 
     void swap(side_table &other) noexcept { std::swap(side, other.side); }
     friend void swap(side_table &a, side_table &b) noexcept { a.swap(b); }
+    friend bool operator==(const side_table &a, const side_table &b) { return a.pairs() == b.pairs(); }
+    friend bool operator!=(const side_table &a, const side_table &b) { return !(a == b); }
 
-    std::size_t size() const noexcept { return slotmap_side_len(side.get()); }
-    bool empty() const noexcept { return size() == 0; }
+    [[nodiscard]] std::size_t size() const noexcept { return slotmap_side_len(side.get()); }
+    [[nodiscard]] bool empty() const noexcept { return size() == 0; }
     /* The largest index for which there is memory. */
-    std::size_t capacity() const noexcept { return slotmap_side_capacity(side.get()); }
+    [[nodiscard]] std::size_t capacity() const noexcept { return slotmap_side_capacity(side.get()); }
     void reserve(std::size_t index) { detail::check(slotmap_side_reserve(side.opened(), index)); }
     void clear() noexcept { slotmap_side_clear(side.get()); }
 
@@ -176,8 +201,8 @@ public:
             *stood = older ? std::make_optional(std::make_pair(older, word::back(number))) : std::nullopt;
         return true;
     }
-    bool contains(key_type at) const noexcept { return slotmap_side_contains(side.get(), detail::number_of(at)); }
-    std::optional<T> get(key_type at) const
+    [[nodiscard]] bool contains(key_type at) const noexcept { return slotmap_side_contains(side.get(), detail::number_of(at)); }
+    [[nodiscard]] std::optional<T> get(key_type at) const
     {
         std::uint64_t number = 0;
         return word::found(slotmap_side_get(side.get(), detail::number_of(at), &number), number);
@@ -188,7 +213,7 @@ public:
         return word::found(slotmap_side_remove(side.get(), detail::number_of(at), &number), number);
     }
     /* All pairs, by ascending index. */
-    std::vector<std::pair<key_type, T>> pairs() const
+    [[nodiscard]] std::vector<std::pair<key_type, T>> pairs() const
     {
         std::vector<std::uint64_t> keys(size() + 1), numbers(size() + 1);
         std::size_t count = slotmap_side_list(side.get(), keys.data(), keys.size(), numbers.data(), numbers.size());

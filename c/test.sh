@@ -8,7 +8,8 @@
 # - each allocation refused in turn, also under valgrind;
 # - that the calls which only read write nothing to the handle, so that two threads may read it at once;
 # - the classes of slotmap.hpp: each call, random calls beside a model with moves that throw and memory that is refused, each allocation
-#   refused in turn, with sanitizers, by each compiler for C++17 and C++20, and without exceptions; two threads that read one of each;
+#   refused in turn, with sanitizers, by each compiler for C++17 and C++20, and without exceptions; where a walk begins, with 200,000
+#   values; two threads that read one of each;
 # - `make install` into a folder, with a program by pkg-config and by CMake, static and shared, and the names that the shared library has;
 # - a second `make install` with another prefix and another archive, one into folders with a space, and `make uninstall`;
 # - the Python package, installed by pip into a folder, from source and as the wheel of c/dist: every call, random calls beside a
@@ -113,7 +114,7 @@ if left="C++" has c++; then
     # What doesn't compile, and what the compiler has to say of it.
     refuses() {
         printf '#include "slotmap.hpp"\n#include <mutex>\nint main() { %s }\n' "$2" >"$out/refused.cpp"
-        ! c++ "-std=$1" -I. -fsyntax-only "$out/refused.cpp" 2>"$out/errors" && grep -q "$3" "$out/errors" && return
+        ! c++ "-std=$1" -Werror=unused-result -I. -fsyntax-only "$out/refused.cpp" 2>"$out/errors" && grep -q "$3" "$out/errors" && return
         echo "c/test.sh: $2 under $1 should be refused, since $3" >&2
         exit 1
     }
@@ -121,11 +122,12 @@ if left="C++" has c++; then
     refuses c++17 "slotmaps::word_map<std::string> map; map.insert({});" "at most 8 bytes"
     refuses c++17 "struct a; struct b; slotmaps::slot_map<int, a> map; map.erase(slotmaps::slot_map<int, b>().insert(1));" "no matching"
     refuses c++14 "" "needs C++17"
+    refuses c++17 "slotmaps::slot_map<int> map; map.insert(1);" "nodiscard"
     echo "C++17: what slotmap.hpp refuses doesn't compile"
     for compiler in c++ clang++; do
         left="$compiler" has "$compiler" || continue
         for flags in -std=c++17 -std=c++20 "-std=c++17 -fno-exceptions" "-std=c++20 -fno-exceptions"; do
-            for program in classes values; do
+            for program in classes values walks; do
                 # shellcheck disable=SC2086
                 "$compiler" $flags "${strict[@]}" -O1 "tests/$program.cpp" "$out/heap.o" "$archive" -o "$out/$program-each"
                 checked "$compiler $flags" "$out/$program-each"
@@ -144,7 +146,7 @@ if left="sanitizers" has clang clang++; then
     checked "sanitizers" "$out/classes-sanitized"
     clang++ -std=c++17 "${strict[@]}" "${sanitize[@]}" tests/refused.cpp "$archive" -o "$out/classes-refused-sanitized"
     checked "sanitizers" "$out/classes-refused-sanitized"
-    for program in random values; do
+    for program in random values walks; do
         heap=$out/heap-sanitized.o
         [ "$program" != random ] || heap=
         # shellcheck disable=SC2086
@@ -152,6 +154,7 @@ if left="sanitizers" has clang clang++; then
     done
     checked "sanitizers" "$out/random-sanitized" 350000
     checked "sanitizers" "$out/values-sanitized"
+    checked "sanitizers" "$out/walks-sanitized"
     clang++ -std=c++17 "${strict[@]}" -g -fsanitize=thread -pthread tests/readers.cpp "$out/heap.o" "$archive" -o "$out/classes-readers"
     if "$out/classes-readers" >"$out/printed" 2>&1; then
         echo "thread sanitizer: $(cat "$out/printed")"

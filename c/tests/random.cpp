@@ -140,6 +140,16 @@ template <class T> class driver {
         }
         CHECK(count == model.size());
     }
+    /* The key of the least index comes first. */
+    template <class Table> static void check_first(const Table &table, const std::map<std::uint64_t, long> &model)
+    {
+        std::uint64_t first = UINT64_MAX;
+        for (auto [id, number] : model)
+            if (key{id}.index() < key{first}.index())
+                first = id;
+        auto at = table.begin();
+        CHECK(at == table.end() ? first == UINT64_MAX : at->first.id == first);
+    }
     std::uint64_t made()
     {
         std::uint64_t id = 0;
@@ -356,6 +366,8 @@ public:
         else
             compare(map, live), compare(side, beside);
         CHECK(map.size() == live.size() && side.size() == beside.size());
+        if (what % 2 == 0)
+            check_first(map, live), check_first(side, beside);
         CHECK(alive == static_cast<long>(live.size() + beside.size()));
     }
 };

@@ -20,6 +20,7 @@ struct here {
 
     key insert(number value) { return map.insert(value); }
     void remove(key at) { map.erase(at); }
+    bool remove_first() { return !map.empty() && (map.erase(map.begin()), true); }
     number *find(key at) { return map.find(at); }
     static number number_of(key at) { return at.id; }
     number sum()
@@ -38,6 +39,7 @@ struct hashed {
 
     key insert(number value) { return map.emplace(++next, value), next; }
     void remove(key at) { map.erase(at); }
+    bool remove_first() { return !map.empty() && (map.erase(map.begin()), true); }
     number *find(key at)
     {
         auto found = map.find(at);
@@ -94,6 +96,7 @@ struct packed {
         slot = {vacant, slot.version + 1};
         vacant = at.index;
     }
+    bool remove_first() { return !values.empty() && (remove({back[0], slots[back[0]].version}), true); }
     static number number_of(key at) { return (number{at.version} << 32) + at.index; }
     number sum()
     {
@@ -121,7 +124,7 @@ static std::size_t chosen(number &state, std::size_t below)
 }
 
 static const std::vector<std::string> operations = {
-    "insert", "the loop of a get alone", "get", "get of a stale key", "a removal and an insert", "a step of a walk",
+    "insert", "the loop of a get alone", "get", "get of a stale key", "a removal and an insert", "a step of a walk", "an insert, and an erasure of the first",
 };
 
 /* One round of an operation. */
@@ -133,7 +136,7 @@ static number round_of(std::size_t operation, Side &side, std::vector<typename S
     case 0: {
         Side fresh;
         for (std::size_t i = 0; i < keys.size(); i++)
-            fresh.insert(i);
+            (void)fresh.insert(i);
         return sum;
     }
     case 1:
@@ -152,7 +155,15 @@ static number round_of(std::size_t operation, Side &side, std::vector<typename S
             keys[at] = side.insert(at);
         }
         return sum;
-    default: return side.sum();
+    case 5: return side.sum();
+    default: {
+        Side fresh;
+        for (std::size_t i = 0; i < keys.size(); i++)
+            (void)fresh.insert(i);
+        while (fresh.remove_first())
+            sum++;
+        return sum;
+    }
     }
 }
 
@@ -191,7 +202,7 @@ template <class Side> static int print(const std::string &what, std::size_t slot
         double before = in_use();
         Side side;
         for (std::size_t i = 0; i < slots; i++)
-            side.insert(i);
+            (void)side.insert(i);
         std::printf("%.1f\n", (in_use() - before) / static_cast<double>(slots));
         return 0;
     }

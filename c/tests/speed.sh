@@ -38,7 +38,7 @@ bytes() { "$out/speed" "$1" bytes "$2" 1; }
 
 echo "| Operation, \`slot_map\` · \`unordered_map\` · P0661 | Instructions at 1,000 slots | Nanoseconds at 1,000 | Nanoseconds at 1,000,000 |"
 echo "|---|---|---|---|"
-for operation in insert "the loop of a get alone" get "get of a stale key" "a removal and an insert" "a step of a walk"; do
+for operation in insert "the loop of a get alone" get "get of a stale key" "a removal and an insert" "a step of a walk" "an insert, and an erasure of the first"; do
     echo "| $operation | $(all count "$operation") | $(all least "$operation" 1000 2000) | $(all least "$operation" 1000000 3) |"
 done
 echo "| bytes of a key | | $(all bytes 1000) | $(all bytes 1000000) |"
