@@ -15,7 +15,7 @@
  * 2. No pointer is NULL, except where the end of this file allows it. An `out` pointer leads to an initialised variable: the proof
  *    presumes that. No two arguments overlap.
  * 3. An array has as many elements as the number after it says. With 0 elements its pointer still isn't NULL.
- * 4. Calls of two threads on one handle are ordered, as by a mutex or a join. Those whose handle is const may overlap one another,
+ * 4. Calls of two threads on one handle are ordered, as by a mutex or a join. Those to which it is const may overlap one another,
  *    as under a read lock: they write to neither the handle nor what it holds. This is tested, on every archive of c/dist, and not
  *    proved: the proof presumes that one call at a time uses a handle.
  * 5. No call is made from a signal handler, or from the forked child of a process with threads.
@@ -104,7 +104,7 @@ void slotmap_free(slotmap_t *map);
 /* Opens the closed handle `copy` with a copy of the map. It has the same keys and values, and will return the same new keys; its
  * capacity may be less. The two are different handles. Linear in the number of slots.
  * SLOTMAP_OK, SLOTMAP_NO_MEMORY, SLOTMAP_CLOSED if `map` is closed, or SLOTMAP_OPEN if `copy` is open. */
-slotmap_status slotmap_clone(slotmap_t *map, slotmap_t *copy);
+slotmap_status slotmap_clone(const slotmap_t *map, slotmap_t *copy);
 
 /* Returns the number of live keys. */
 size_t slotmap_len(const slotmap_t *map);
@@ -207,7 +207,7 @@ void slotmap_side_free(slotmap_side_t *side);
 
 /* Opens the closed handle `copy` with a copy of the table. The two are different handles. Linear in the number of slots.
  * SLOTMAP_OK, SLOTMAP_NO_MEMORY, SLOTMAP_CLOSED if `side` is closed, or SLOTMAP_OPEN if `copy` is open. */
-slotmap_status slotmap_side_clone(slotmap_side_t *side, slotmap_side_t *copy);
+slotmap_status slotmap_side_clone(const slotmap_side_t *side, slotmap_side_t *copy);
 
 /* Returns the number of keys. */
 size_t slotmap_side_len(const slotmap_side_t *side);
@@ -273,7 +273,7 @@ void slotmap_keys_free(slotmap_keys_t *map);
 
 /* Opens the closed handle `copy` with a copy of the map. The two are different handles. Linear in the number of slots.
  * SLOTMAP_OK, SLOTMAP_NO_MEMORY, SLOTMAP_CLOSED if `map` is closed, or SLOTMAP_OPEN if `copy` is open. */
-slotmap_status slotmap_keys_clone(slotmap_keys_t *map, slotmap_keys_t *copy);
+slotmap_status slotmap_keys_clone(const slotmap_keys_t *map, slotmap_keys_t *copy);
 
 /* Returns the number of live keys. */
 size_t slotmap_keys_len(const slotmap_keys_t *map);
@@ -369,13 +369,13 @@ static inline slotmap_status slotmap_inline_side_remove(slotmap_side_t *side, ui
     return slotmap_side_remove(side, key, value_out ? value_out : &unread);
 }
 
-#define slotmap_free(map) slotmap_inline_free(map)
-#define slotmap_side_free(side) slotmap_inline_side_free(side)
-#define slotmap_keys_free(map) slotmap_inline_keys_free(map)
-#define slotmap_set(map, key, value, old_out) slotmap_inline_set(map, key, value, old_out)
-#define slotmap_remove(map, key, value_out) slotmap_inline_remove(map, key, value_out)
-#define slotmap_detach(map, key, value_out) slotmap_inline_detach(map, key, value_out)
-#define slotmap_side_remove(side, key, value_out) slotmap_inline_side_remove(side, key, value_out)
+#define slotmap_free(...) slotmap_inline_free(__VA_ARGS__)
+#define slotmap_side_free(...) slotmap_inline_side_free(__VA_ARGS__)
+#define slotmap_keys_free(...) slotmap_inline_keys_free(__VA_ARGS__)
+#define slotmap_set(...) slotmap_inline_set(__VA_ARGS__)
+#define slotmap_remove(...) slotmap_inline_remove(__VA_ARGS__)
+#define slotmap_detach(...) slotmap_inline_detach(__VA_ARGS__)
+#define slotmap_side_remove(...) slotmap_inline_side_remove(__VA_ARGS__)
 
 #ifdef __cplusplus
 }

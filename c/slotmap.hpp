@@ -33,9 +33,8 @@
  * A destructor of T may call `erase`, `find`, `clear` and the like on the map that it leaves, also during `clear` and where another map
  * is assigned. It must not insert there: the array may move.
  *
- * Many threads may read one of them at once by its const calls, but for copying it, which takes a thread alone, as do all calls that
- * aren't const. Of these `begin` alone may write, and only a number that is atomic: where the first value is. All this is tested; the
- * proof of slotmap.h presumes one call at a time.
+ * Many threads may read one of them at once, by its const calls, or copy it. Of these `begin` alone may write, and only a number that
+ * is atomic: where the first value is. All this is tested; the proof of slotmap.h presumes one call at a time.
  */
 #ifndef SLOTMAP_HPP
 #define SLOTMAP_HPP
@@ -55,7 +54,7 @@ template <class T, class Tag = void> class slot_map : public detail::table<T, Ta
     using place = detail::place<T>;
     using base::values;
 
-    mutable detail::handle<slotmap_keys_t, slotmap_keys_open, slotmap_keys_free, slotmap_keys_clone> keys;
+    detail::handle<slotmap_keys_t, slotmap_keys_open, slotmap_keys_free, slotmap_keys_clone> keys;
     /* How many slots are vacant: that many keys need no room in the array. */
     std::size_t vacant = 0;
 

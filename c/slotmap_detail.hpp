@@ -104,15 +104,15 @@ public:
     }
 };
 
-/* A handle that is opened when it is first needed. What clones it may write to it, so a const owner has it mutable. */
-template <class Raw, slotmap_status (*New)(Raw *), void (*Free)(Raw *), slotmap_status (*Clone)(Raw *, Raw *)> class handle {
+/* A handle that is opened when it is first needed. */
+template <class Raw, slotmap_status (*New)(Raw *), void (*Free)(Raw *), slotmap_status (*Clone)(const Raw *, Raw *)> class handle {
     Raw raw{nullptr};
 
 public:
     handle() noexcept = default;
     ~handle() { Free(&raw); }
     handle(handle &&other) noexcept : raw(std::exchange(other.raw, Raw{nullptr})) {}
-    handle(handle &other)
+    handle(const handle &other)
     {
         if (other.raw.at != nullptr)
             check(Clone(&other.raw, &raw));
@@ -123,6 +123,7 @@ public:
         return *this;
     }
     Raw *get() noexcept { return &raw; }
+    const Raw *get() const noexcept { return &raw; }
     Raw *opened()
     {
         if (raw.at == nullptr)

@@ -44,7 +44,7 @@ template <class T> struct word {
 /* Values of at most 8 bytes, in the proved map itself. */
 template <class T, class Tag = void> class word_map {
     using word = detail::word<T>;
-    mutable detail::handle<slotmap_t, slotmap_new, slotmap_free, slotmap_clone> map;
+    detail::handle<slotmap_t, slotmap_new, slotmap_free, slotmap_clone> map;
     mutable detail::lead lowest;
 
 public:
@@ -114,7 +114,7 @@ public:
 
     /* By ascending index. The map may change during the iteration, but must not be moved. */
     class iterator {
-        slotmap_t *map = nullptr;
+        const slotmap_t *map = nullptr;
         key_type at;
         std::uint64_t number = 0;
 
@@ -127,7 +127,7 @@ public:
 
         iterator() noexcept = default;
         /* At the first key whose index is above that of another. */
-        explicit iterator(slotmap_t *over, key_type after = {}) : map(over), at(after) { ++*this; }
+        explicit iterator(const slotmap_t *over, key_type after = {}) : map(over), at(after) { ++*this; }
         iterator &operator++()
         {
             if (slotmap_next(map, at.id, &at.id, &number) != SLOTMAP_OK)
@@ -159,7 +159,7 @@ public:
  * index up to that of a key. So one key from outside may take gigabytes: ask the map first whether it is live. */
 template <class T, class Tag = void> class side_table {
     using word = detail::word<T>;
-    mutable detail::handle<slotmap_side_t, slotmap_side_new, slotmap_side_free, slotmap_side_clone> side;
+    detail::handle<slotmap_side_t, slotmap_side_new, slotmap_side_free, slotmap_side_clone> side;
 
 public:
     using key_type = typed_key<Tag>;

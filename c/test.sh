@@ -11,7 +11,8 @@
 #   refused in turn, with sanitizers, by each compiler for C++17 and C++20, and without exceptions; where a walk begins, with 200,000
 #   values; two threads that read one of each;
 # - `make install` into a folder, with a program by pkg-config and by CMake, static and shared, and the names that the shared library has;
-# - a second `make install` with another prefix and another archive, one into folders with a space, and `make uninstall`;
+# - a second `make install` with another prefix and another archive, one into folders with a space, and `make uninstall`; one in
+#   another folder from sources that can't be written; CMake's add_subdirectory and FetchContent;
 # - the Python package, installed by pip into a folder, from source and as the wheel of c/dist: every call, random calls beside a
 #   model, threads, each allocation refused, and its type hints. PYTHONS="python3.9 .." names other Pythons than python3. A million
 #   random calls are made over the module as gcc's address and undefined-behaviour sanitizers compile it;
@@ -197,6 +198,17 @@ if left="CMake" has cmake; then
     grep -q "slotmap_INCLUDE_DIR.*=$out/second/include" "$out/cmake-static/build/CMakeCache.txt" || { echo "c/test.sh: CMake keeps the header of its first copy" >&2; exit 1; }
     ! cmake_program other 0.8 && grep -q "requested version" "$out/cmake-log" || { echo "c/test.sh: CMake takes the version 0.8" >&2; exit 1; }
     echo "CMake: both libraries, and no other version"
+    # As part of another build: a program in C++ whose own build has no C, and one that fetches the package; from sources that stay as they are.
+    as_part() {
+        mkdir -p "$out/part $1"
+        printf '%s\n' 'cmake_minimum_required(VERSION 3.14)' "project(names $2)" "${@:4}" "add_executable(names \"$top/c/examples/$3\")" \
+            'target_compile_features(names PRIVATE '"$([ "$2" = C ] && echo c_std_99 || echo cxx_std_17))" "target_link_libraries(names slotmap::$1)" >"$out/part $1/CMakeLists.txt"
+        cmake -S "$out/part $1" -B "$out/part $1/build" -DSLOTMAP_ARCHIVE="$archive" >"$out/cmake-log" 2>&1 && cmake --build "$out/part $1/build" >>"$out/cmake-log" 2>&1 || { cat "$out/cmake-log" >&2; exit 1; }
+        same "$out/part $1/build/names"
+    }
+    as_part static CXX names.cpp "add_subdirectory(\"$top/c\" slotmap)"
+    as_part slotmap C names.c 'include(FetchContent)' "FetchContent_Declare(slotmap SOURCE_DIR \"$top\" SOURCE_SUBDIR c)" 'FetchContent_MakeAvailable(slotmap)'
+    ! cmake -S . -B "$out/cmake-other" -DCMAKE_SYSTEM_NAME=Linux -DCMAKE_SYSTEM_PROCESSOR=sparc64 >"$out/cmake-log" 2>&1 && grep -q "no archive for sparc64" "$out/cmake-log" || { echo "c/test.sh: CMake has an archive for sparc64" >&2; exit 1; }
 fi
 # Another prefix and another archive after a first build, also an older one.
 again() {
@@ -217,6 +229,19 @@ make -s -C "$out" uninstall "${spaces[@]}"
 [ -z "$(find "$out/with a space" ! -type d)" ] || { echo "c/test.sh: make uninstall left files" >&2; exit 1; }
 ! make -C "$out" CC="echo x86_64-w64-mingw32; true" >"$out/log" 2>&1 && grep -q "no archive for x86_64-w64-mingw32" "$out/log" || { echo "c/test.sh: make takes a Linux archive for another system" >&2; exit 1; }
 echo "make install: into folders with a space, and uninstall removes all of it"
+# From sources that can't be written, in another folder, whose name has a space.
+sources() { (cd "$out/sources" && find . -newer "$out/before"); }
+mkdir "$out/sources" "$out/else where"
+cp -r Makefile slotmap-config* LICENSE LICENSE-slotmap slotmap.h slotmap*.hpp heap.c tests examples "$out/sources"
+cp "$archive" "$out/else where/an archive.a"
+touch "$out/before"
+chmod -R a-w "$out/sources"
+for build in build "a folder/build"; do
+    (cd "$out/else where" && make -s -f "$out/sources/Makefile" install check BUILD="$build" PREFIX="$out/else where/$build/root" ARCHIVE="an archive.a") >"$out/log" 2>&1 || { cat "$out/log" >&2; exit 1; }
+    [ -e "$out/else where/$build/root/lib/libslotmap.a" ] && [ -z "$(sources)" ] || { echo "c/test.sh: make writes to its sources" >&2; exit 1; }
+done
+chmod -R u+w "$out/sources"
+echo "make install and check: in another folder, from sources that can't be written"
 sed -n 's/^[a-z_0-9]* \(slotmap_[a-z_]*\)(.*);$/\1/p' slotmap.h | sort >"$out/declared"
 # exports WHAT LIBRARY: a shared library has the names of slotmap.h, and no other.
 exports() {
@@ -224,6 +249,10 @@ exports() {
     echo "$1: the shared library has the $(wc -l <"$out/declared") names of slotmap.h, and no other"
 }
 exports "make install" "$root/lib/libslotmap.so"
+# While the version is 0.x, another x may break a program: the name that a program asks for says which.
+soname=$(sed -n 's/.*SLOTMAP_VERSION "\(0\.[0-9]*\|[1-9][0-9]*\).*/libslotmap.so.\1/p' slotmap.h)
+[ "$(objdump -p "$root/lib/libslotmap.so" | awk '$1 == "SONAME" { print $2 }')" = "$soname" ] && [ -e "$root/lib/$soname" ] ||
+    { echo "c/test.sh: the shared library isn't $soname" >&2; exit 1; }
 
 # pip_into PYTHON FOLDER WHAT ..: by pip, without a network, into a folder from which programs then import.
 pip_into() {
@@ -319,7 +348,7 @@ for place in "python/pyproject.toml version" "python/slotmap_proved/__init__.py 
     read -r file name <<<"$place"
     grep -q "\b$name = .*\"$version\"$" "$file" || { echo "c/test.sh: $file has another version than $version" >&2; exit 1; }
 done
-for file in slotmap.h slotmap*.hpp heap.c Makefile python/slotmap_proved/__init__.py python/src/*; do
+for file in slotmap.h slotmap*.hpp heap.c Makefile CMakeLists.txt python/slotmap_proved/__init__.py python/src/*; do
     head -n 2 "$file" | grep -q "SPDX-License-Identifier: MIT" || { echo "c/test.sh: $file names no licence" >&2; exit 1; }
 done
 for file in LICENSE LICENSE-slotmap; do

@@ -193,6 +193,34 @@ static void check_null(slotmap_t *map)
     slotmap_free(NULL);
 }
 
+/* The calls that take NULL are macros: an argument may have a comma nonetheless. */
+struct two {
+    uint64_t first, second;
+};
+#ifdef __cplusplus
+#define TWO two
+#else
+#define TWO (struct two)
+#endif
+
+static void check_commas(slotmap_t *map)
+{
+    uint64_t a = 0, old = 0;
+    slotmap_side_t sides[2] = {SLOTMAP_INIT, SLOTMAP_INIT};
+    slotmap_status status = slotmap_insert(map, 3, &a);
+    CHECK(status == SLOTMAP_OK && slotmap_side_new(&sides[1]) == SLOTMAP_OK);
+    status = slotmap_set(map, TWO{1, a}.second, TWO{1, 2}.second, &old);
+    CHECK(status == SLOTMAP_OK && old == 3);
+    status = slotmap_detach(map, TWO{1, a}.second, &old);
+    CHECK(status == SLOTMAP_OK && old == 2);
+    status = slotmap_remove(map, TWO{1, a}.second, &old);
+    CHECK(status == SLOTMAP_NOT_LIVE);
+    status = slotmap_side_remove(&sides[1], TWO{1, a}.second, &old);
+    CHECK(status == SLOTMAP_NOT_LIVE);
+    slotmap_side_free(&sides[TWO{0, 1}.second]);
+    CHECK(sides[1].at == NULL);
+}
+
 /* A copy has the same keys and values, returns the same new keys, and lives apart. */
 static void check_clone(slotmap_t *map)
 {
@@ -336,6 +364,7 @@ int main(void)
     with_new(check_wrapping);
     with_new(check_gaps);
     with_new(check_null);
+    with_new(check_commas);
     check_texts();
     with_new(check_all_keys);
     CHECK(slotmap_new(&map) == SLOTMAP_OK);

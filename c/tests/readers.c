@@ -1,5 +1,5 @@
-/* The calls whose handle is const write to neither the handle nor what it holds: both stand in pages that can't be written while
- * these calls are made. So two threads that read one handle at once are both right. POSIX. */
+/* The calls to which a handle is const write to neither the handle nor what it holds: both stand in pages that can't be written while
+ * these calls are made, also where a copy is refused memory. So two threads that read one handle at once are both right. POSIX. */
 #define _DEFAULT_SOURCE
 #include "check.h"
 #include "slotmap.h"
@@ -8,7 +8,7 @@
 #include <string.h>
 #include <sys/mman.h>
 
-enum { COUNT = 1000, READS = 1000000, ROOM = 1 << 20 };
+enum { COUNT = 1000, READS = 1000000, COPIES = 100, ROOM = 1 << 20 };
 
 /* The handles, and memory for what they hold, which begins at a multiple of 16. */
 static struct handles {
@@ -20,6 +20,9 @@ static struct handles {
 } *all;
 static uint64_t keys[COUNT];
 static unsigned long wrong[2];
+/* Where the pages can't be written, a copy has memory from elsewhere, but for the request that comes after so many others. */
+static bool is_protected;
+static long refuse_after = -1;
 
 /* In place of those of heap.c. */
 struct block {
@@ -34,6 +37,11 @@ struct block rattle_alloc(size_t size, size_t align)
 {
     struct block made = {true, all->memory + all->used};
     (void)align;
+    if (is_protected) {
+        made.made = refuse_after < 0 || refuse_after-- > 0;
+        made.at = made.made ? malloc(size + 1) : (void *)all;
+        return made;
+    }
     all->used += (size + 15) / 16 * 16;
     CHECK(all->used <= ROOM);
     return made;
@@ -42,13 +50,17 @@ struct block rattle_alloc(size_t size, size_t align)
 struct block rattle_realloc(void *old, size_t kept, size_t size, size_t align)
 {
     struct block made = rattle_alloc(size, align);
-    memcpy(made.at, old, kept < size ? kept : size);
+    if (made.made) {
+        memcpy(made.at, old, kept < size ? kept : size);
+        rattle_dealloc(old);
+    }
     return made;
 }
 
 void rattle_dealloc(void *block)
 {
-    (void)block;
+    if ((unsigned char *)block < all->memory || (unsigned char *)block >= all->memory + ROOM)
+        free(block);
 }
 
 /* Every call that reads, once. Every tenth key is live. */
@@ -76,6 +88,38 @@ static void check_reads(const struct handles *h, size_t live)
     CHECK(slotmap_side_list(&h->side, some, 8, theirs, 8) == (live > 0 ? 8 : 0));
 }
 
+/* Copies of all three, which have what is there. Each that is refused memory leaves its handle closed. */
+static unsigned long wrong_copies(const struct handles *h, size_t live)
+{
+    slotmap_t map = SLOTMAP_INIT;
+    slotmap_side_t side = SLOTMAP_INIT;
+    slotmap_keys_t keys_alone = SLOTMAP_INIT;
+    uint64_t value = 0;
+    unsigned long missed = 0;
+    bool refused = slotmap_clone(&h->map, &map) != SLOTMAP_OK;
+    missed += refused ? map.at != NULL : slotmap_len(&map) != live || slotmap_get(&map, keys[0], &value) != SLOTMAP_OK;
+    refused = slotmap_side_clone(&h->side, &side) != SLOTMAP_OK;
+    missed += refused ? side.at != NULL : slotmap_side_len(&side) != live || !slotmap_side_contains(&side, keys[0]);
+    refused = slotmap_keys_clone(&h->live, &keys_alone) != SLOTMAP_OK;
+    missed += refused ? keys_alone.at != NULL : slotmap_keys_len(&keys_alone) != live || !slotmap_keys_contains(&keys_alone, keys[0]);
+    slotmap_free(&map);
+    slotmap_side_free(&side);
+    slotmap_keys_free(&keys_alone);
+    return missed;
+}
+
+/* With each request for memory refused in turn, until none is. */
+static void check_copies(const struct handles *h, size_t live)
+{
+    long turn = 0;
+    do {
+        refuse_after = turn++;
+        CHECK(wrong_copies(h, live) == 0);
+    } while (refuse_after < 0);
+    refuse_after = -1;
+    CHECK(turn > 9);
+}
+
 static void *reads(void *count)
 {
     unsigned long missed = 0;
@@ -87,12 +131,15 @@ static void *reads(void *count)
         missed += slotmap_side_get(&all->side, keys[at], &value) != SLOTMAP_OK || value != at;
         missed += slotmap_next(&all->map, keys[at], &next, &value) != (at + 10 < COUNT ? SLOTMAP_OK : SLOTMAP_NO_MORE);
     }
+    for (unsigned i = 0; i < COPIES; i++)
+        missed += wrong_copies(all, COUNT / 10);
     *(unsigned long *)count = missed;
     return NULL;
 }
 
 static void protect(bool writable)
 {
+    is_protected = !writable;
     CHECK(mprotect(all, sizeof *all, writable ? PROT_READ | PROT_WRITE : PROT_READ) == 0);
 }
 
@@ -115,6 +162,7 @@ int main(void)
             CHECK(slotmap_delete(&all->map, keys[i]) == SLOTMAP_OK && slotmap_keys_remove(&all->live, keys[i]) == SLOTMAP_OK);
     protect(false);
     check_reads(all, COUNT / 10);
+    check_copies(all, COUNT / 10);
     CHECK(pthread_create(&other, NULL, reads, &wrong[1]) == 0);
     reads(&wrong[0]);
     CHECK(pthread_join(other, NULL) == 0 && wrong[0] + wrong[1] == 0);
@@ -122,6 +170,6 @@ int main(void)
     slotmap_free(&all->map);
     slotmap_keys_free(&all->live);
     slotmap_side_free(&all->side);
-    printf("readers: %llu checks, and %d reads in each of two threads\n", checks, 4 * READS);
+    printf("readers: %llu checks, and %d reads and %d copies in each of two threads\n", checks, 4 * READS, 3 * COPIES);
     return 0;
 }

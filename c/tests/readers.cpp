@@ -1,4 +1,4 @@
-/* Two threads that read the classes of slotmap.hpp at once, by each const call but the copy. */
+/* Two threads that read the classes of slotmap.hpp at once, by each const call, and copy them. */
 #include "check.h"
 #include "slotmap.hpp"
 
@@ -53,8 +53,13 @@ int main()
             CHECK(all.texts.erase(keys[static_cast<unsigned>(i)]) && all.numbers.erase(keys[static_cast<unsigned>(i)]));
     unsigned wrong[2] = {0, 0};
     auto read = [&](unsigned &here) {
-        for (int turn = 0; turn < 100; turn++)
+        for (int turn = 0; turn < 100; turn++) {
             here += wrong_reads(all, keys);
+            if (turn % 10 == 0) {
+                const all_four copy(all);
+                here += wrong_reads(copy, keys) + (copy.texts != all.texts) + (copy.numbers != all.numbers);
+            }
+        }
     };
     std::thread other([&] { read(wrong[1]); });
     read(wrong[0]);
