@@ -12,7 +12,7 @@
 #     wheels                            the Python package, by c/python/wheels.sh, which says what it needs
 #
 # With --check it builds all of this anew in another folder, compares it byte by byte with what is there, and fails at the first
-# difference. It needs the kit, and some ten minutes of processor time in a fresh clone, later one.
+# difference. The kit's name in VERDICT is none: where another kit makes the same bytes, it says so. It needs the kit, and some ten minutes of processor time in a fresh clone, later one.
 set -euo pipefail
 top=$(cd "$(dirname "$0")/.." && pwd)
 dist=$top/c/dist
@@ -41,7 +41,10 @@ archive x86_64 --cpu x86-64
 (cd "$out" && sha256sum dist/*/libslotmap_c.a) >>"$out/dist/SHA256SUMS"
 
 if [ -n "$check" ]; then
-    diff -r --exclude=wheels --exclude=SOURCES "$dist" "$out/dist" || { echo "c/dist.sh: c/dist differs from what was built; run c/dist.sh" >&2; exit 1; }
+    differs() { echo "c/dist.sh: c/dist differs from what was built; run c/dist.sh" >&2; exit 1; }
+    diff -r --exclude=wheels --exclude=SOURCES --exclude=VERDICT "$dist" "$out/dist" || differs
+    diff <(tail -n +2 "$dist/VERDICT") <(tail -n +2 "$out/dist/VERDICT") || differs
+    cmp -s "$dist/VERDICT" "$out/dist/VERDICT" || echo "c/dist.sh: c/dist was built by $(head -n 1 "$dist/VERDICT"), and now by $(head -n 1 "$out/dist/VERDICT")"
     echo "c/dist.sh: the same bytes:"
     "$top/c/python/wheels.sh" --check
 else

@@ -338,6 +338,29 @@ if [ "$machine" = x86_64 ]; then
     done
 fi
 
+# c/dist.sh --check, with a program in place of the kit that has the archives of c/dist: another name of the kit is no fault, another byte
+# or another number of proved functions is.
+kit=$out/kit
+mkdir -p "$kit/c/python" "$kit/crates/slotmap_c/out" "$kit/bin"
+cp -r dist dist.sh slotmap.h heap.c "$kit/c"
+cat >"$kit/bin/rt" <<'end'
+#!/bin/sh
+case "$*" in
+    version) echo "another-kit"; exit ;;
+    *aarch64*) from=aarch64 ;;
+    *--cpu*) from=x86_64 ;;
+    *) from=x86_64-v2 ;;
+esac
+cp "../../c/dist/$from-linux/libslotmap_c.a" out/
+[ -z "${another_byte:-}" ] || echo >>out/libslotmap_c.a
+echo "logic=proved ${another_line:-$(sed -n 's/^logic=proved //p' ../../c/dist/VERDICT)}"
+end
+echo 'echo "the wheels: not compared"' >"$kit/c/python/wheels.sh"
+chmod +x "$kit/bin/rt" "$kit/c/python/wheels.sh"
+dist_check() { PATH=$kit/bin:$PATH bash "$kit/c/dist.sh" --check >"$out/log" 2>&1; }
+dist_check && grep -q "built by $(head -n 1 dist/VERDICT), and now by another-kit" "$out/log" || { cat "$out/log" >&2; echo "c/test.sh: c/dist.sh --check refuses another kit's name" >&2; exit 1; }
+! another_byte=yes dist_check && ! another_line="functions=5 axioms=3" dist_check || { echo "c/test.sh: c/dist.sh --check takes what differs" >&2; exit 1; }
+echo "c/dist.sh --check: another kit's name is told, another byte or verdict a fault"
 if left="prototypes" has python3; then
     python3 tests/prototypes.py
 fi
