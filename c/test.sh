@@ -1,7 +1,8 @@
 #!/usr/bin/env bash
-# c/test.sh [ARCHIVE]
+# c/test.sh [ARCHIVE | source]
 #
-# Tests the calls for C, C++ and Python over the archive of c/dist for this machine, or over ARCHIVE:
+# Tests the calls for C, C++ and Python over the archive of c/dist for this machine, or over ARCHIVE. With the word `source` the archive is
+# the one that cargo builds of rust/c without std, and the library with std is tested too, static and shared. In either case:
 #
 # - every call, from C99 and from C++17, also with clang's address and undefined-behaviour sanitizers, under valgrind, and on an
 #   x86-64 processor without SSE4.1 under qemu;
@@ -26,6 +27,12 @@ set -euo pipefail
 top=$(cd "$(dirname "$0")/.." && pwd)
 machine=$(uname -m)
 archive=$(realpath -m "${1:-$top/c/dist/$machine-linux/libslotmap_c.a}")
+if [ "${1:-}" = source ]; then
+    built=$top/rust/c/target
+    (cd "$top/rust/c" && cargo build --offline --quiet --release --no-default-features --target-dir "$built/without-std" &&
+        cargo build --offline --quiet --release --target-dir "$built")
+    archive=$built/without-std/release/libslotmap_c.a
+fi
 [ -e "$archive" ] || { echo "c/test.sh: there is no $archive: run c/dist.sh, or name another" >&2; exit 2; }
 out=$(mktemp -d)
 trap 'rm -rf "$out"' EXIT
@@ -253,6 +260,18 @@ exports "make install" "$root/lib/libslotmap.so"
 soname=$(sed -n 's/.*SLOTMAP_VERSION "\(0\.[0-9]*\|[1-9][0-9]*\).*/libslotmap.so.\1/p' slotmap.h)
 [ "$(objdump -p "$root/lib/libslotmap.so" | awk '$1 == "SONAME" { print $2 }')" = "$soname" ] && [ -e "$root/lib/$soname" ] ||
     { echo "c/test.sh: the shared library isn't $soname" >&2; exit 1; }
+if [ "${1:-}" = source ]; then
+    exports "cargo build" "$built/release/libslotmap_c.so"
+    cc -std=c99 "${strict[@]}" tests/refused.c "$built/release/libslotmap_c.a" -Wl,--wrap=malloc,--wrap=realloc -o "$out/refused-std"
+    checked "with std" "$out/refused-std"
+    for kind in -Wl,-Bstatic -Wl,-Bdynamic; do
+        for program in tests/calls tests/keys examples/names; do
+            cc -std=c99 "${strict[@]}" "$program.c" "-L$built/release" "-Wl,-rpath,$built/release" "$kind" -lslotmap_c -Wl,-Bdynamic -o "$out/with-std"
+            [ "$program" != examples/names ] || { same "$out/with-std"; continue; }
+            checked "with std, ${kind#-Wl,-B}" "$out/with-std"
+        done
+    done
+fi
 
 # pip_into PYTHON FOLDER WHAT ..: by pip, without a network, into a folder from which programs then import.
 pip_into() {

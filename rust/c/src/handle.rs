@@ -1,6 +1,7 @@
 //! A handle: a map behind a pointer, or none.
 
 use crate::status::{CLOSED, NO_MEMORY, OK, OPEN};
+use alloc::{boxed::Box, vec::Vec};
 
 /// A handle of slotmap.h: open, with a map, or closed. Its one field is the pointer `at`, which is null in a closed handle: a `Box` of
 /// a type with a size is a pointer for C, and `None` is null. An array of one map is a type that a box is made of without `unsafe`,

@@ -5,16 +5,19 @@
 //!
 //! Parameters are references where slotmap.h has pointers. What the head of the header asks of its caller is what Rust asks of these:
 //! none is null, none leads to a variable without a value, and no two overlap. A handle that is `const` there is shared here.
+#![cfg_attr(not(feature = "std"), no_std)]
 #![deny(unsafe_op_in_unsafe_fn)]
 #![warn(missing_docs, clippy::undocumented_unsafe_blocks)]
 
+extern crate alloc;
+
 mod handle;
-#[cfg(feature = "heap")]
-mod heap;
 mod keys;
 mod map;
 mod side;
 mod status;
+#[cfg(not(feature = "std"))]
+mod without_std;
 
 use slotmap_proved::{DefaultKey, Key, KeyData};
 
@@ -70,5 +73,5 @@ fn list(pairs: impl Iterator<Item = (u64, u64)>, keys: &mut [u64], values: &mut 
 /// As `slice::from_raw_parts_mut`: slotmap.h asks the same of an array and the number after it.
 unsafe fn array<'a>(at: *mut u64, len: usize) -> &'a mut [u64] {
     // SAFETY: the caller keeps to what `from_raw_parts_mut` asks for.
-    unsafe { std::slice::from_raw_parts_mut(at, len) }
+    unsafe { core::slice::from_raw_parts_mut(at, len) }
 }

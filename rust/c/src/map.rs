@@ -151,5 +151,5 @@ pub unsafe extern "C" fn slotmap_list_after(
         last = next;
         Some((number(next), *value))
     };
-    list(std::iter::from_fn(next), keys, values)
+    list(core::iter::from_fn(next), keys, values)
 }

@@ -1,7 +1,9 @@
-//! Memory by the three functions that c/heap.c defines, as the archive takes it.
+//! What else std has: memory, here by the three functions that c/heap.c defines, as the archive takes it; and the end of a program whose
+//! library panics, which none of these calls does unless there is a fault.
 
-use std::alloc::{GlobalAlloc, Layout};
-use std::ptr::null_mut;
+use core::alloc::{GlobalAlloc, Layout};
+use core::panic::PanicInfo;
+use core::ptr::null_mut;
 
 /// A block, or, where memory ran out, the address of a byte that is never read.
 #[repr(C)]
@@ -14,6 +16,13 @@ extern "C" {
     fn rattle_alloc(size: usize, align: usize) -> Block;
     fn rattle_realloc(old: *mut u8, kept: usize, size: usize, align: usize) -> Block;
     fn rattle_dealloc(block: *mut u8);
+    fn abort() -> !;
+}
+
+#[panic_handler]
+fn panic(_: &PanicInfo) -> ! {
+    // SAFETY: C's `abort` may be called at any time.
+    unsafe { abort() }
 }
 
 impl Block {
