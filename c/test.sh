@@ -2,7 +2,8 @@
 # c/test.sh [ARCHIVE | source]
 #
 # Tests the calls for C, C++ and Python over the archive of c/dist for this machine, or over ARCHIVE. With the word `source` the archive is
-# the one that cargo builds of rust/c without std, and the library with std is tested too, static and shared. In either case:
+# the one that cargo builds of rust/c without std. The library with std is then tested too, static and shared, and random calls compare both
+# with the archive of c/dist. In either case:
 #
 # - every call, from C99 and from C++17, also with clang's address and undefined-behaviour sanitizers, under valgrind, and on an
 #   x86-64 processor without SSE4.1 under qemu;
@@ -27,15 +28,17 @@ set -euo pipefail
 top=$(cd "$(dirname "$0")/.." && pwd)
 machine=$(uname -m)
 archive=$(realpath -m "${1:-$top/c/dist/$machine-linux/libslotmap_c.a}")
+out=$(mktemp -d)
+trap 'rm -rf "$out"' EXIT
 if [ "${1:-}" = source ]; then
     built=$top/rust/c/target
     (cd "$top/rust/c" && cargo build --offline --quiet --release --no-default-features --target-dir "$built/without-std" &&
         cargo build --offline --quiet --release --target-dir "$built")
-    archive=$built/without-std/release/libslotmap_c.a
+    archive=$out/source.a
+    # Without what is for a linker of Rust's alone: an older plugin of binutils complains of it at each look.
+    objcopy --remove-section=.llvmbc --remove-section=.llvmcmd "$built/without-std/release/libslotmap_c.a" "$archive" >"$out/log" 2>&1
 fi
 [ -e "$archive" ] || { echo "c/test.sh: there is no $archive: run c/dist.sh, or name another" >&2; exit 2; }
-out=$(mktemp -d)
-trap 'rm -rf "$out"' EXIT
 cd "$top/c"
 
 # has TOOL ..: whether the machine has these, with a word if not.
@@ -262,6 +265,11 @@ soname=$(sed -n 's/.*SLOTMAP_VERSION "\(0\.[0-9]*\|[1-9][0-9]*\).*/libslotmap.so
     { echo "c/test.sh: the shared library isn't $soname" >&2; exit 1; }
 if [ "${1:-}" = source ]; then
     exports "cargo build" "$built/release/libslotmap_c.so"
+    cc -std=c99 "${strict[@]}" tests/beside.c -ldl -o "$out/beside"
+    cc -shared "$out/heap.o" -Wl,--whole-archive "dist/$machine-linux/libslotmap_c.a" -Wl,--no-whole-archive -o "$out/archive.so"
+    for library in "$root/lib/libslotmap.so" "$built/release/libslotmap_c.so"; do
+        "$out/beside" "$out/archive.so" "$library" 10000000
+    done
     cc -std=c99 "${strict[@]}" tests/refused.c "$built/release/libslotmap_c.a" -Wl,--wrap=malloc,--wrap=realloc -o "$out/refused-std"
     checked "with std" "$out/refused-std"
     for kind in -Wl,-Bstatic -Wl,-Bdynamic; do

@@ -10,6 +10,7 @@
 # - what each public call asks the allocator for: nothing within its room, or what its row says; and that no call is without a row;
 # - a program without std, over the crate without its feature `std`: it has a panic handler of its own, so it wouldn't build over std;
 # - the examples of the documentation, as one program, and the documentation itself, without a warning;
+# - the library for C compiles, with std and without: c/test.sh source tests it;
 # - the example of the pages.
 #
 # What stands beside other crates isn't here: rust/beside.sh and rust/upstream.sh need slotmap, petgraph or serde. rust/systems.sh runs the
@@ -25,5 +26,6 @@ python3 eraser/test.py
 (cd check/no_std && cargo run --offline --quiet)
 (cd check && RUSTDOCFLAGS="-D warnings" cargo doc --offline --quiet --no-deps --lib)
 (cd check && RUSTDOCFLAGS="-D warnings" cargo doc --offline --quiet --no-deps --lib --no-default-features)
+(cd c && cargo check --offline --quiet && cargo check --offline --quiet --no-default-features)
 (cd check && cargo run --offline --quiet --example names) | diff - <(sed -n '/<!-- printed -->/,/<!-- end -->/s/^    //p' ../docs/C.md | sed '/^$/d')
 echo "rust/test.sh: ok"

@@ -9,6 +9,7 @@
 #     memory         each allocation of the proved programs refused in turn: tests/memory.sh
 #     archives       c/dist, built anew and compared byte by byte: c/dist.sh --check
 #     c              the calls for C, C++ and Python: c/test.sh
+#     c-source       the same, over the library from source: c/test.sh source
 #     systems        the Rust crate on other systems: rust/systems.sh
 #     beside         the Rust crate beside slotmap 1.1.1: rust/beside.sh, if SOURCE names that crate's folder, with src/lib.rs
 #     compare        rows and every list of four calls beside slotmap, likewise: compare/
@@ -54,6 +55,7 @@ part wrong-bodies tests/wrong-bodies.sh
 part memory tests/memory.sh
 part archives c/dist.sh --check
 part c c/test.sh
+part c-source c/test.sh source
 part systems rust/systems.sh
 if [ $# -eq 1 ]; then
     part beside rust/beside.sh "$1"
