@@ -132,7 +132,7 @@ def iteration():
                 walk = make(table)
                 next(walk)
                 change()
-                assert fails(RuntimeError, next, walk) and fails(StopIteration, next, walk)
+                assert fails(RuntimeError, next, walk) and fails(RuntimeError, next, walk)
                 if len(table) == 0:
                     for number in range(10):
                         ages[names.insert(number)] = number
@@ -148,6 +148,100 @@ def iteration():
             names.insert(5)
 
     assert fails(RuntimeError, grow)
+
+
+def many(count, make=lambda number: number):
+    names, ages = SlotMap(), Side()
+    for number in range(count):
+        ages[names.insert(make(number))] = make(number)
+    return names, ages
+
+
+def ahead():
+    """An iterator reads ahead. It shows the values that are set meanwhile, and the keys that took the place of others before it began."""
+    for table in many(300, Value):
+        keys = list(table)
+        for at, (key, value) in enumerate(table.items()):
+            assert key == keys[at] and value.number == (at if at == 0 or at % 3 else at + 1000)
+            for later in range(at + 1, min(at + 80, 300)):
+                if later % 3 == 0:
+                    table[keys[later]] = Value(later + 1000)
+        walk = iter(table.values())
+        assert next(walk).number == 0
+        for key in keys:
+            table[key] = Value(-1)
+        del value
+        assert {one.number for one in walk} == {-1}
+        table.clear()
+        del walk
+    for count in (5000, 100):
+        names, ages = many(count)
+        for table in names, ages:
+            first = list(table), list(table.items()), table.pairs()
+            assert first[0] == [key for key, _ in first[1]] == [key for key, _ in first[2]] == [2**32 + index for index in range(1, count + 1)]
+        for key in list(names)[::2]:
+            del names[key]
+        for number in range(count // 2):
+            ages[names.insert(number)] = number
+        for table in names, ages:
+            assert list(table) == [key for key, _ in table.pairs()] and sum(key >> 32 == 3 for key in table) == count // 2
+            assert all(table[key] == value for key, value in table.items())
+
+
+class Stepping:
+    """An object whose end takes a step of an iterator."""
+
+    def __init__(self, walk):
+        self.walk = walk
+
+    def __del__(self):
+        self.walk.append(next(self.walk[0]))
+
+
+def same_pair():
+    """A pair that nobody has is returned again with other contents. Nobody notices."""
+    names, _ = many(100, lambda number: [number])
+    assert [hash((key, number[0])) for key, number in names.items()] == [hash((key, number[0])) for key, number in names.pairs()]
+    assert list(map(id, list(names.items()))) != [id(0)] * 100 and len(set(map(id, list(names.items())))) == 100
+    walk = iter(names.items())
+    one, two = next(walk), next(walk)
+    assert one == (A, [0]) and two == (B, [1]) and one is not two
+    names, _ = many(100)
+    assert list(map(hash, names.items())) == list(map(hash, names.pairs()))
+    # The end of the pair's old value takes a step: of the same iterator, in the middle of another.
+    names = SlotMap()
+    keys = [names.insert(number) for number in range(100)]
+    walk = iter(names.items())
+    taken = [walk]
+    for key in keys[::7]:
+        names[key] = Stepping(taken)
+    for key in keys[::7]:
+        names[key] = 5
+    shown = [pair for pair in walk]
+    assert sorted(shown + taken[1:]) == names.pairs()
+    walk = iter(names.items())
+    taken[:] = [walk]
+    names[keys[1]] = Stepping(taken)
+    shown = []
+    for key, value in walk:
+        if key == keys[1]:
+            del value
+            names[key] = 6
+        shown.append(key)
+    assert sorted(shown + [key for key, _ in taken[1:]]) == keys and len(taken) == 2
+    # A pair of which the collector lost sight leads to a cycle.
+    names = SlotMap()
+    keys = [names.insert(number) for number in range(3)]
+    walk = iter(names.items())
+    next(walk)
+    gc.collect()
+    value = [Value(1)]
+    names[keys[1]] = value
+    pair = next(walk)
+    value.append(pair)
+    del names, walk, pair, value, taken
+    gc.collect()
+    assert Value.alive == 0
 
 
 def beside():
@@ -406,7 +500,7 @@ def random_calls(count, seed):
 
 
 def main():
-    for test in (one_key, no_keys, all_keys, iteration, beside, copies, cycles, finalizers, threads):
+    for test in (one_key, no_keys, all_keys, iteration, ahead, same_pair, beside, copies, cycles, finalizers, threads):
         test()
     count = int(sys.argv[1]) if len(sys.argv) > 1 else 100000
     random_calls(count, int(sys.argv[2]) if len(sys.argv) > 2 else 7)

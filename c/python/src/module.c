@@ -8,28 +8,35 @@
 
 /* Each iterator has this type, also those of keys. */
 static PyTypeObject *iterator_type;
+/* Whether an iterator may return one pair again. From 3.14 on a tuple keeps its hash. */
+static bool pairs_again;
 
 enum of { KEYS, VALUES, ITEMS };
 
 typedef struct {
     PyObject_HEAD
     Table *over;
-    uint64_t last, changes;
+    /* The pair that the iterator returned last, or null: it returns it again, with other contents, if nobody else has it. */
+    PyObject *pair;
+    Ahead ahead;
     enum of of;
 } Iterator;
 
+_Static_assert(sizeof(size_t) == sizeof(uint64_t), "a key is read as a size_t");
+
 /* ---- Keys and errors ---- */
 
-/* Reads a key: SLOTMAP_NULL if the object is a number that no map returns, or no integer at all. An exception of `__index__` goes on. */
+/* Reads a key: SLOTMAP_NULL if the object is a number that no map returns, or no integer at all. An exception of `__index__` goes on.
+ * Of CPython's calls that read 64 bits PyLong_AsSize_t is the fastest: others read a key byte by byte. */
 static bool read_key(PyObject *object, uint64_t *key)
 {
-    uint64_t number = PyLong_AsUnsignedLongLong(object);
+    uint64_t number = PyLong_AsSize_t(object);
     if (number == UINT64_MAX && PyErr_Occurred()) {
         PyObject *index = NULL;
         if (PyErr_ExceptionMatches(PyExc_TypeError)) {
             PyErr_Clear();
             index = PyNumber_Index(object);
-            number = index == NULL ? UINT64_MAX : PyLong_AsUnsignedLongLong(index);
+            number = index == NULL ? UINT64_MAX : PyLong_AsSize_t(index);
             Py_XDECREF(index);
         }
         if (PyErr_Occurred() && !PyErr_ExceptionMatches(PyExc_TypeError) && !PyErr_ExceptionMatches(PyExc_OverflowError))
@@ -53,13 +60,31 @@ static PyObject *fail(slotmap_status status, PyObject *key)
     return NULL;
 }
 
-/* A pair, of which the value's reference is taken over. */
-static PyObject *pair_of(uint64_t key, PyObject *value)
+/* A pair, of which both references are taken over. A `number` that is null is an error. */
+static PyObject *pair_of(PyObject *number, PyObject *value)
 {
-    PyObject *number = PyLong_FromUnsignedLongLong(key);
     PyObject *pair = number == NULL ? NULL : PyTuple_Pack(2, number, value);
     Py_XDECREF(number);
     Py_DECREF(value);
+    return pair;
+}
+
+/* The same, in the pair of an iterator if that is free. The end of its old value may run Python code, also a step of this iterator. */
+static PyObject *next_pair(Iterator *self, PyObject *number, PyObject *value)
+{
+    PyObject *pair = self->pair;
+    if (number == NULL || pair == NULL || Py_REFCNT(pair) != 1)
+        return pair_of(number, value);
+    self->pair = NULL;
+    /* The collector may have lost sight of a pair whose contents lead nowhere. */
+    if (!PyObject_GC_IsTracked(pair))
+        PyObject_GC_Track(pair);
+    PyTuple_SetItem(pair, 0, number);
+    PyTuple_SetItem(pair, 1, value);
+    if (self->pair == NULL) {
+        Py_INCREF(pair);
+        self->pair = pair;
+    }
     return pair;
 }
 
@@ -218,7 +243,7 @@ static PyObject *list_of(const uint64_t *keys, const uint64_t *values, size_t co
 {
     PyObject *list = PyList_New((Py_ssize_t)count);
     for (size_t i = 0; i < count; i++) {
-        PyObject *pair = list == NULL ? NULL : pair_of(keys[i], table_object(values[i]));
+        PyObject *pair = list == NULL ? NULL : pair_of(PyLong_FromSize_t(keys[i]), table_object(values[i]));
         if (list == NULL)
             Py_DecRef(table_object(values[i]));
         else if (pair == NULL)
@@ -249,10 +274,13 @@ static PyObject *iterate(PyObject *self, enum of of)
     Iterator *made = (Iterator *)alloc(iterator_type, 0);
     if (made == NULL)
         return NULL;
+    /* It may collect, and so run Python code. */
+    made->pair = of == ITEMS && pairs_again ? PyTuple_Pack(2, Py_None, Py_None) : NULL;
+    PyErr_Clear();
     Py_INCREF(self);
     made->over = (Table *)self;
-    made->last = SLOTMAP_START;
-    made->changes = made->over->changes;
+    made->ahead.last = SLOTMAP_START;
+    made->ahead.changes = made->over->changes;
     made->of = of;
     return (PyObject *)made;
 }
@@ -271,55 +299,68 @@ static PyObject *iterate_items(PyObject *self, PyObject *unused)
     return iterate(self, ITEMS);
 }
 
-/* Returns the next of an iterator over a table. What is over is dropped by the caller. */
-static PyObject *step(Iterator *self, Table *over, bool *ends)
+/* After its last an iterator lets its table go. One whose keys changed keeps it, and fails again, as that of a dict. */
+static PyObject *no_next(Iterator *self, slotmap_status status)
 {
-    PyObject *value = NULL;
-    slotmap_status status = table_next(over, self->changes, self->last, &self->last, self->of == KEYS ? NULL : &value);
-    *ends = status != SLOTMAP_OK;
-    if (status == TABLE_CHANGED)
+    if (status == TABLE_CHANGED) {
         PyErr_SetString(PyExc_RuntimeError, "the keys changed during iteration");
-    if (*ends)
-        return NULL;
-    if (self->of == KEYS)
-        return PyLong_FromUnsignedLongLong(self->last);
-    return self->of == VALUES ? value : pair_of(self->last, value);
+    } else {
+        PyObject *over = (PyObject *)self->over, *pair = self->pair;
+        self->over = NULL;
+        self->pair = NULL;
+        Py_XDECREF(over);
+        Py_XDECREF(pair);
+    }
+    return NULL;
 }
 
+static PyObject *step(Iterator *self, Table *over)
+{
+    uint64_t key = 0;
+    PyObject *value = NULL;
+    slotmap_status status = table_step(over, &self->ahead, &key, self->of == KEYS ? NULL : &value);
+    if (status != SLOTMAP_OK)
+        return no_next(self, status);
+    if (self->of == VALUES)
+        return value;
+    PyObject *number = table_key(over, key);
+    return self->of == KEYS ? number : next_pair(self, number, value);
+}
+
+#ifndef Py_GIL_DISABLED
 static PyObject *iterator_next(PyObject *object)
 {
     Iterator *self = (Iterator *)object;
-    Table *ended = NULL;
-    PyObject *next = NULL;
-    bool ends = false;
-#ifdef Py_GIL_DISABLED
+    return self->over != NULL ? step(self, self->over) : NULL;
+}
+#else
+static PyObject *iterator_next(PyObject *object)
+{
+    Iterator *self = (Iterator *)object;
+    PyObject *next = NULL, *over;
     Py_BEGIN_CRITICAL_SECTION(object);
-#endif
-    if (self->over != NULL)
-        next = step(self, self->over, &ends);
-    if (ends) {
-        ended = self->over;
-        self->over = NULL;
-    }
-#ifdef Py_GIL_DISABLED
+    over = (PyObject *)self->over;
+    /* Another thread may end the iterator while this one waits for the table. */
+    Py_XINCREF(over);
+    if (over != NULL)
+        next = step(self, (Table *)over);
     Py_END_CRITICAL_SECTION();
-#endif
-    Py_XDECREF((PyObject *)ended);
+    Py_XDECREF(over);
     return next;
 }
+#endif
 
 static int iterator_traverse(PyObject *self, visitproc visit, void *arg)
 {
     Py_VISIT(Py_TYPE(self));
     Py_VISIT((PyObject *)((Iterator *)self)->over);
+    Py_VISIT(((Iterator *)self)->pair);
     return 0;
 }
 
 static int iterator_clear(PyObject *self)
 {
-    Table *over = ((Iterator *)self)->over;
-    ((Iterator *)self)->over = NULL;
-    Py_XDECREF((PyObject *)over);
+    no_next((Iterator *)self, SLOTMAP_NO_MORE);
     return 0;
 }
 
@@ -412,7 +453,7 @@ static PyObject *exchange(PyObject *self, PyObject *arguments)
         return fail(status, object);
     if (old == NULL)
         Py_RETURN_NONE;
-    return pair_of(older, old);
+    return pair_of(PyLong_FromSize_t(older), old);
 }
 
 /* ---- The module ---- */
@@ -475,6 +516,9 @@ PyMODINIT_FUNC PyInit__tables(void)
         return NULL;
 #ifdef Py_GIL_DISABLED
     PyUnstable_Module_SetGIL(module, Py_MOD_GIL_NOT_USED);
+#endif
+#ifndef Py_GIL_DISABLED
+    pairs_again = PyLong_AsLong(PySys_GetObject("hexversion")) < 0x030e0000;
 #endif
     iterator_type = (PyTypeObject *)PyType_FromSpec(&iterator_spec);
     if (iterator_type != NULL && add_type(module, "Map", &map_spec) && add_type(module, "Side", &side_spec))

@@ -47,6 +47,11 @@ void table_end(Table *table)
     free(table->keys);
     table->keys = NULL;
     table->room = 0;
+    for (size_t i = 0; i < table->known_room; i++)
+        Py_XDECREF(table->known[i].object);
+    free(table->known);
+    table->known = NULL;
+    table->known_room = 0;
 }
 
 /* The collector calls it while no other thread runs. */
@@ -118,12 +123,18 @@ bool table_contains(Table *table, uint64_t key)
     return found;
 }
 
+/* Without the lock. */
+static slotmap_status get_of(Table *table, uint64_t key, uint64_t *number)
+{
+    return table->is_side ? slotmap_side_get(&table->in.side, key, number) : slotmap_get(&table->in.map, key, number);
+}
+
 slotmap_status table_get(Table *table, uint64_t key, PyObject **value)
 {
     slotmap_status status;
     uint64_t number = 0;
     LOCKED(table)
-    status = table->is_side ? slotmap_side_get(&table->in.side, key, &number) : slotmap_get(&table->in.map, key, &number);
+    status = get_of(table, key, &number);
     if (status == SLOTMAP_OK)
         Py_INCREF(*value = table_object(number));
     UNLOCKED()
@@ -173,8 +184,10 @@ slotmap_status table_set(Table *map, uint64_t key, PyObject *value, PyObject **o
     uint64_t number = 0;
     LOCKED(map)
     status = slotmap_set(&map->in.map, key, number_of(value), &number);
-    if (status == SLOTMAP_OK)
+    if (status == SLOTMAP_OK) {
         Py_INCREF(value);
+        map->writes++;
+    }
     UNLOCKED()
     if (status == SLOTMAP_OK)
         *old = table_object(number);
@@ -220,6 +233,7 @@ slotmap_status table_put(Table *side, uint64_t key, PyObject *value, uint64_t *o
     if (status == SLOTMAP_OK) {
         Py_INCREF(value);
         side->changes += *older != key;
+        side->writes++;
         side->keys[(uint32_t)key] = key;
     }
     UNLOCKED()
@@ -227,17 +241,79 @@ slotmap_status table_put(Table *side, uint64_t key, PyObject *value, uint64_t *o
     return status;
 }
 
-slotmap_status table_next(Table *table, uint64_t changes, uint64_t after, uint64_t *key, PyObject **value)
+/* Without the lock: reads the first pairs after a key. The first look reads a few, since many iterators are asked once. */
+static void read_ahead(Table *table, Ahead *ahead)
 {
-    slotmap_status status = TABLE_CHANGED;
+    size_t most = ahead->last == SLOTMAP_START ? AHEAD / 8 : AHEAD;
+    ahead->at = ahead->count = 0;
+    ahead->writes = table->writes;
+    if (!table->is_side)
+        ahead->count = slotmap_list_after(&table->in.map, ahead->last, ahead->keys, most, ahead->values, most);
+    else
+        for (uint64_t key = ahead->last; ahead->count < most && next_of_side(table, key, &key, &ahead->values[ahead->count]) == SLOTMAP_OK; ahead->count++)
+            ahead->keys[ahead->count] = key;
+    if (ahead->count > 0)
+        ahead->last = ahead->keys[ahead->count - 1];
+}
+
+/* Without the lock. */
+static slotmap_status step_of(Table *table, Ahead *ahead, uint64_t *key, uint64_t *number)
+{
+    if (table->changes != ahead->changes)
+        return TABLE_CHANGED;
+    if (ahead->at == ahead->count)
+        read_ahead(table, ahead);
+    if (ahead->count == 0)
+        return SLOTMAP_NO_MORE;
+    size_t at = ahead->at++;
+    *key = ahead->keys[at];
+    *number = ahead->values[at];
+    return table->writes == ahead->writes ? SLOTMAP_OK : get_of(table, *key, number);
+}
+
+slotmap_status table_look(Table *table, Ahead *ahead, uint64_t *key, PyObject **value)
+{
+    slotmap_status status;
     uint64_t number = 0;
     LOCKED(table)
-    if (table->changes == changes)
-        status = next_of(table, after, key, &number);
+    status = step_of(table, ahead, key, &number);
     if (status == SLOTMAP_OK && value != NULL)
         Py_INCREF(*value = table_object(number));
     UNLOCKED()
     return status;
+}
+
+#ifndef Py_GIL_DISABLED
+static bool make_known(Table *table, size_t index)
+{
+    size_t before = table->known_room, room = index < 64 ? 64 : index < KNOWN / 2 ? 2 * index : KNOWN;
+    if (index < before)
+        return true;
+    Known *known = index < KNOWN ? realloc(table->known, room * sizeof *known) : NULL;
+    if (known == NULL)
+        return false;
+    memset(known + before, 0, (room - before) * sizeof *known);
+    table->known = known;
+    table->known_room = room;
+    return true;
+}
+#endif
+
+PyObject *table_make_key(Table *table, uint64_t key)
+{
+    PyObject *made = PyLong_FromSize_t(key);
+#ifdef Py_GIL_DISABLED
+    (void)table;
+#else
+    if (made == NULL || !make_known(table, (uint32_t)key))
+        return made;
+    Known *known = &table->known[(uint32_t)key];
+    Py_XDECREF(known->object);
+    Py_INCREF(made);
+    known->object = made;
+    known->key = key;
+#endif
+    return made;
 }
 
 size_t table_drain(Table *table, uint64_t after, uint64_t *keys, uint64_t *values, size_t most)

@@ -16,6 +16,12 @@
 
 #include "slotmap.h"
 
+enum { KNOWN = 4096 };
+typedef struct {
+    uint64_t key;
+    PyObject *object;
+} Known;
+
 typedef struct {
     PyObject_HEAD
     bool is_side;
@@ -26,9 +32,22 @@ typedef struct {
     /* Of a side table: the key at each index below `room`, or 0. The proved calls have no step from key to key. */
     uint64_t *keys;
     size_t room;
-    /* Counts the changes of the set of keys. */
-    uint64_t changes;
+    /* Count the changes of the set of keys, and those of values. */
+    uint64_t changes, writes;
+    /* Keys that iterators returned, with their objects, at the indices below `known_room`, which is at most KNOWN. They save an iteration
+     * over a small map the making of its numbers. Each is compared with the key before it is used, so one of a removed key is no fault. */
+    Known *known;
+    size_t known_room;
 } Table;
+
+/* What an iterator has read ahead of a table: `count` pairs, of which those before `at` were handed out. The keys are live as long as
+ * the table has `changes`, and the values are theirs as long as it has `writes` too. */
+enum { AHEAD = 64 };
+typedef struct {
+    uint64_t last, changes, writes;
+    size_t at, count;
+    uint64_t keys[AHEAD], values[AHEAD];
+} Ahead;
 
 /* Beside those of slotmap.h: the keys changed since `changes`. */
 #define TABLE_CHANGED ((slotmap_status)100)
@@ -52,8 +71,15 @@ slotmap_status table_detach(Table *map, uint64_t key, PyObject **value);
 slotmap_status table_reattach(Table *map, uint64_t key, PyObject *value);
 /* Writes the key that made way, or 0, and the reference to its value. */
 slotmap_status table_put(Table *side, uint64_t key, PyObject *value, uint64_t *older, PyObject **old);
-/* Writes the next key after another, and a new reference to its value, unless `value` is null. */
-slotmap_status table_next(Table *table, uint64_t changes, uint64_t after, uint64_t *key, PyObject **value);
+/* Writes the next key, and a new reference to its value, unless `value` is null: what was read ahead, if the table is as it was then,
+ * and otherwise what the table has. */
+slotmap_status table_look(Table *table, Ahead *ahead, uint64_t *key, PyObject **value);
+static inline slotmap_status table_step(Table *table, Ahead *ahead, uint64_t *key, PyObject **value);
+/* Makes the object of a key, and remembers it, unless its index is large or memory runs out. Returns null, with an exception, if there is
+ * no memory for the object. Without the interpreter's lock it remembers none. */
+PyObject *table_make_key(Table *table, uint64_t key);
+/* Returns an object of a key for an iterator, or null. */
+static inline PyObject *table_key(Table *table, uint64_t key);
 /* Removes the keys after another, as far as the arrays go, and writes them and the references that the table had. */
 size_t table_drain(Table *table, uint64_t after, uint64_t *keys, uint64_t *values, size_t most);
 /* Writes all keys with new references into two new arrays, which the caller frees. */
@@ -62,5 +88,28 @@ slotmap_status table_list(Table *table, uint64_t **keys, uint64_t **values, size
 slotmap_status table_clone(Table *table, Table *copy);
 
 static inline PyObject *table_object(uint64_t value) { return (PyObject *)(uintptr_t)value; }
+
+static inline PyObject *table_key(Table *table, uint64_t key)
+{
+    uint32_t index = (uint32_t)key;
+    if (index >= table->known_room || table->known[index].key != key)
+        return table_make_key(table, key);
+    Py_INCREF(table->known[index].object);
+    return table->known[index].object;
+}
+
+static inline slotmap_status table_step(Table *table, Ahead *ahead, uint64_t *key, PyObject **value)
+{
+#ifndef Py_GIL_DISABLED
+    if (ahead->at < ahead->count && table->changes == ahead->changes && table->writes == ahead->writes) {
+        *key = ahead->keys[ahead->at];
+        if (value != NULL)
+            Py_INCREF(*value = table_object(ahead->values[ahead->at]));
+        ahead->at++;
+        return SLOTMAP_OK;
+    }
+#endif
+    return table_look(table, ahead, key, value);
+}
 
 #endif
