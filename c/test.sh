@@ -16,7 +16,7 @@
 # - a second `make install` with another prefix and another archive, one into folders with a space, and `make uninstall`; one in
 #   another folder from sources that can't be written; CMake's add_subdirectory and FetchContent;
 # - the Python package, installed by pip into a folder, from source and as the wheel of c/dist: every call, random calls beside a
-#   model, threads, each allocation refused, and its type hints. PYTHONS="python3.9 .." names other Pythons than python3. A million
+#   model, threads, interpreters, signatures, each allocation refused, and its type hints. PYTHONS="python3.9 .." names other Pythons than python3. A million
 #   random calls are made over the module as gcc's address and undefined-behaviour sanitizers compile it;
 # - the program of docs/C.md in C, C++ and Python: each prints what the page says, also by the commands that the page has;
 # - the archive for AArch64 under qemu, and that for x86-64-v2;
@@ -290,6 +290,7 @@ python_tests() {
     [ "$(nm -D --defined-only "$PYTHONPATH"/slotmap_proved/_tables*.so | awk '{ print $3 }')" = PyInit__tables ] ||
         { echo "c/test.sh: the module for Python has other names" >&2; exit 1; }
     checked "$("$1" --version)" "$1" tests/calls.py
+    checked "$("$1" --version)" "$1" tests/package.py
     same "$1" examples/names.py
     [ ! -e "$out/refuse.so" ] || checked "$("$1" --version)" env LD_PRELOAD="$out/refuse.so" "$1" tests/refused.py
 }

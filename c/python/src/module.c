@@ -6,10 +6,13 @@
 
 #include <stdlib.h>
 
-/* Each iterator has this type, also those of keys. */
-static PyTypeObject *iterator_type;
-/* Whether an iterator may return one pair again. From 3.14 on a tuple keeps its hash. */
-static bool pairs_again;
+/* What each interpreter has of its own. */
+typedef struct {
+    /* Each iterator has this type, also those of keys. */
+    PyTypeObject *iterator_type;
+    /* Whether an iterator may return one pair again. From 3.14 on a tuple keeps its hash. */
+    bool pairs_again;
+} State;
 
 enum of { KEYS, VALUES, ITEMS };
 
@@ -176,25 +179,34 @@ static PyObject *taken(slotmap_status (*take)(Table *, uint64_t, PyObject **), P
     return absent != NULL ? absent : fail(status, object);
 }
 
-/* Reads a key and a default, which may be named. */
-static bool read_default(PyObject *arguments, PyObject *named, const char *format, PyObject **key, PyObject **absent)
+/* Reads a key and a default, of which either may be named: the first `count` arguments have no names. */
+static bool read_default(const char *call, PyObject *const *arguments, Py_ssize_t count, PyObject *names, PyObject *read[2])
 {
-    static char *names[] = {"key", "default", NULL};
-    if (named == NULL)
-        return PyArg_UnpackTuple(arguments, strchr(format, ':') + 1, 1, 2, key, absent);
-    return PyArg_ParseTupleAndKeywords(arguments, named, format, names, key, absent);
+    Py_ssize_t named = names == NULL ? 0 : PyTuple_Size(names);
+    if (count > 2)
+        return PyErr_Format(PyExc_TypeError, "%s() takes a key and a default, not %zd arguments", call, count + named) != NULL;
+    for (Py_ssize_t i = 0; i < count; i++)
+        read[i] = arguments[i];
+    for (Py_ssize_t i = 0; i < named; i++) {
+        PyObject *name = PyTuple_GetItem(names, i);
+        int at = PyUnicode_CompareWithASCIIString(name, "key") == 0 ? 0 : PyUnicode_CompareWithASCIIString(name, "default") == 0 ? 1 : 2;
+        if (at == 2 || at < count)
+            return PyErr_Format(PyExc_TypeError, at == 2 ? "%s() has no argument '%U'" : "%s() has two values for '%U'", call, name) != NULL;
+        read[at] = arguments[count + i];
+    }
+    return read[0] != NULL || PyErr_Format(PyExc_TypeError, "%s() needs a key", call) != NULL;
 }
 
-static PyObject *get(PyObject *self, PyObject *arguments, PyObject *named)
+static PyObject *get(PyObject *self, PyObject *const *arguments, Py_ssize_t count, PyObject *names)
 {
-    PyObject *key = NULL, *absent = Py_None;
-    return read_default(arguments, named, "O|O:get", &key, &absent) ? taken(table_get, self, key, absent) : NULL;
+    PyObject *read[2] = {NULL, Py_None};
+    return read_default("get", arguments, count, names, read) ? taken(table_get, self, read[0], read[1]) : NULL;
 }
 
-static PyObject *pop(PyObject *self, PyObject *arguments, PyObject *named)
+static PyObject *pop(PyObject *self, PyObject *const *arguments, Py_ssize_t count, PyObject *names)
 {
-    PyObject *key = NULL, *absent = NULL;
-    return read_default(arguments, named, "O|O:pop", &key, &absent) ? taken(table_remove, self, key, absent) : NULL;
+    PyObject *read[2] = {NULL, NULL};
+    return read_default("pop", arguments, count, names, read) ? taken(table_remove, self, read[0], read[1]) : NULL;
 }
 
 static PyObject *clear_all(PyObject *self, PyObject *unused)
@@ -268,14 +280,28 @@ static PyObject *pairs(PyObject *self, PyObject *unused)
 
 /* ---- Iterators ---- */
 
+/* The state of the module that a table's type is from. A type that Python code makes of it has another destructor. */
+static State *state_of(PyObject *self)
+{
+    PyTypeObject *type = Py_TYPE(self);
+    while (PyType_GetSlot(type, Py_tp_dealloc) != (void *)dealloc)
+        type = PyType_GetSlot(type, Py_tp_base);
+    return PyType_GetModuleState(type);
+}
+
 static PyObject *iterate(PyObject *self, enum of of)
 {
-    allocfunc alloc = (allocfunc)PyType_GetSlot(iterator_type, Py_tp_alloc);
-    Iterator *made = (Iterator *)alloc(iterator_type, 0);
+    State *state = state_of(self);
+    if (state == NULL || state->iterator_type == NULL) {
+        PyErr_SetString(PyExc_RuntimeError, "the interpreter is ending");
+        return NULL;
+    }
+    allocfunc alloc = (allocfunc)PyType_GetSlot(state->iterator_type, Py_tp_alloc);
+    Iterator *made = (Iterator *)alloc(state->iterator_type, 0);
     if (made == NULL)
         return NULL;
     /* It may collect, and so run Python code. */
-    made->pair = of == ITEMS && pairs_again ? PyTuple_Pack(2, Py_None, Py_None) : NULL;
+    made->pair = of == ITEMS && state->pairs_again ? PyTuple_Pack(2, Py_None, Py_None) : NULL;
     PyErr_Clear();
     Py_INCREF(self);
     made->over = (Table *)self;
@@ -458,37 +484,46 @@ static PyObject *exchange(PyObject *self, PyObject *arguments)
 
 /* ---- The module ---- */
 
+/* Of the stable interface since 3.10. In 3.9 it has the same number and meaning. */
+#ifndef METH_FASTCALL
+#define METH_FASTCALL 0x0080
+#endif
+
+/* The first line of a text is what `inspect.signature` reads. */
 #define NAMED(call) ((PyCFunction)(void (*)(void))(call))
+#define SIGNED(signature, text) signature "\n--\n\n" text
 #define SHARED_METHODS \
-    {"get", NAMED(get), METH_VARARGS | METH_KEYWORDS, "get(key, default=None): the value of a key, or the default."}, \
-    {"pop", NAMED(pop), METH_VARARGS | METH_KEYWORDS, "pop(key[, default]): removes a key, and returns its value. Without a default it raises KeyError."}, \
-    {"clear", clear_all, METH_NOARGS, "Removes every key."}, \
-    {"capacity", capacity, METH_NOARGS, "The largest index for which there is memory."}, \
-    {"pairs", pairs, METH_NOARGS, "All keys with their values, by ascending index, as a list, in one step."}, \
-    {"_duplicate", duplicate, METH_NOARGS, "A copy without attributes."}, \
-    {"_values", iterate_values, METH_NOARGS, "An iterator over the values."}, \
-    {"_items", iterate_items, METH_NOARGS, "An iterator over pairs."}, \
-    {"__class_getitem__", Py_GenericAlias, METH_O | METH_CLASS, "For type hints."}
+    {"get", NAMED(get), METH_FASTCALL | METH_KEYWORDS, SIGNED("get($self, key, default=None)", "The value of a key, or the default.")}, \
+    {"pop", NAMED(pop), METH_FASTCALL | METH_KEYWORDS, \
+     SIGNED("pop($self, key, default=...)", "Removes a key, and returns its value, or the default. Without a default it raises KeyError.")}, \
+    {"clear", clear_all, METH_NOARGS, SIGNED("clear($self, /)", "Removes every key.")}, \
+    {"capacity", capacity, METH_NOARGS, SIGNED("capacity($self, /)", "The largest index for which there is memory.")}, \
+    {"pairs", pairs, METH_NOARGS, SIGNED("pairs($self, /)", "All keys with their values, by ascending index, as a list, in one step.")}, \
+    {"_duplicate", duplicate, METH_NOARGS, SIGNED("_duplicate($self, /)", "A copy without attributes.")}, \
+    {"_values", iterate_values, METH_NOARGS, SIGNED("_values($self, /)", "An iterator over the values.")}, \
+    {"_items", iterate_items, METH_NOARGS, SIGNED("_items($self, /)", "An iterator over pairs.")}, \
+    {"__class_getitem__", Py_GenericAlias, METH_O | METH_CLASS, SIGNED("__class_getitem__($type, item, /)", "For type hints.")}
 #define SHARED_SLOTS \
     {Py_tp_init, no_arguments}, {Py_tp_dealloc, dealloc}, {Py_tp_traverse, traverse}, {Py_tp_clear, clear}, {Py_tp_iter, iterate_keys}, \
     {Py_mp_length, length}, {Py_mp_subscript, subscript}, {Py_sq_contains, contains}
 
 static PyMethodDef map_methods[] = {
     SHARED_METHODS,
-    {"insert", insert, METH_O, "insert(value): makes a key for a value, and returns it."},
-    {"detach", detach, METH_O, "detach(key): takes the value of a live key out, and keeps the slot for the key."},
-    {"reattach", reattach, METH_VARARGS, "reattach(key, value): binds a detached key to a value again."},
-    {"reserve", reserve, METH_O, "reserve(additional): makes room for so many more keys."},
+    {"insert", insert, METH_O, SIGNED("insert($self, value, /)", "Makes a key for a value, and returns it.")},
+    {"detach", detach, METH_O, SIGNED("detach($self, key, /)", "Takes the value of a live key out, and keeps the slot for the key.")},
+    {"reattach", reattach, METH_VARARGS, SIGNED("reattach($self, key, value, /)", "Binds a detached key to a value again.")},
+    {"reserve", reserve, METH_O, SIGNED("reserve($self, additional, /)", "Makes room for so many more keys.")},
     {NULL, NULL, 0, NULL},
 };
 static PyMethodDef side_methods[] = {
     SHARED_METHODS,
-    {"exchange", exchange, METH_VARARGS, "exchange(key, value): puts a value, and returns the key that stood at this index, with its value, or None."},
-    {"reserve", reserve, METH_O, "reserve(index): makes sure of memory for each index up to a number."},
+    {"exchange", exchange, METH_VARARGS,
+     SIGNED("exchange($self, key, value, /)", "Puts a value, and returns the key that stood at this index, with its value, or None.")},
+    {"reserve", reserve, METH_O, SIGNED("reserve($self, index, /)", "Makes sure of memory for each index up to a number.")},
     {NULL, NULL, 0, NULL},
 };
-static PyType_Slot map_slots[] = {SHARED_SLOTS, {Py_tp_new, new_map}, {Py_tp_methods, map_methods}, {Py_mp_ass_subscript, assign}, {0, NULL}};
-static PyType_Slot side_slots[] = {SHARED_SLOTS, {Py_tp_new, new_side}, {Py_tp_methods, side_methods}, {Py_mp_ass_subscript, put}, {0, NULL}};
+static PyType_Slot map_slots[] = {SHARED_SLOTS, {Py_tp_doc, SIGNED("Map()", "Objects under keys that it makes.")}, {Py_tp_new, new_map}, {Py_tp_methods, map_methods}, {Py_mp_ass_subscript, assign}, {0, NULL}};
+static PyType_Slot side_slots[] = {SHARED_SLOTS, {Py_tp_doc, SIGNED("Side()", "Objects under the keys of a map.")}, {Py_tp_new, new_side}, {Py_tp_methods, side_methods}, {Py_mp_ass_subscript, put}, {0, NULL}};
 static PyType_Slot iterator_slots[] = {
     {Py_tp_dealloc, iterator_dealloc}, {Py_tp_traverse, iterator_traverse}, {Py_tp_clear, iterator_clear},
     {Py_tp_iter, PyObject_SelfIter},   {Py_tp_iternext, iterator_next},     {0, NULL},
@@ -498,31 +533,65 @@ static PyType_Slot iterator_slots[] = {
 static PyType_Spec map_spec = {"slotmap_proved._tables.Map", sizeof(Table), 0, COLLECTED | Py_TPFLAGS_BASETYPE, map_slots};
 static PyType_Spec side_spec = {"slotmap_proved._tables.Side", sizeof(Table), 0, COLLECTED | Py_TPFLAGS_BASETYPE, side_slots};
 static PyType_Spec iterator_spec = {"slotmap_proved._tables.Iterator", sizeof(Iterator), 0, COLLECTED, iterator_slots};
-static struct PyModuleDef definition = {PyModuleDef_HEAD_INIT, "_tables", "Tables of Python objects. Use slotmap_proved.", -1, NULL, NULL, NULL, NULL, NULL};
 
 static bool add_type(PyObject *module, const char *name, PyType_Spec *spec)
 {
-    PyObject *type = PyType_FromSpec(spec);
+    PyObject *type = PyType_FromModuleAndSpec(module, spec, NULL);
     if (type != NULL && PyModule_AddObject(module, name, type) == 0)
         return true;
     Py_XDECREF(type);
     return false;
 }
 
+static int execute(PyObject *module)
+{
+    State *state = PyModule_GetState(module);
+#ifndef Py_GIL_DISABLED
+    state->pairs_again = PyLong_AsLong(PySys_GetObject("hexversion")) < 0x030e0000;
+#endif
+    state->iterator_type = (PyTypeObject *)PyType_FromModuleAndSpec(module, &iterator_spec, NULL);
+    return state->iterator_type != NULL && add_type(module, "Map", &map_spec) && add_type(module, "Side", &side_spec) ? 0 : -1;
+}
+
+static int module_traverse(PyObject *module, visitproc visit, void *arg)
+{
+    State *state = PyModule_GetState(module);
+    if (state != NULL)
+        Py_VISIT((PyObject *)state->iterator_type);
+    return 0;
+}
+
+static int module_clear(PyObject *module)
+{
+    State *state = PyModule_GetState(module);
+    PyObject *type = state == NULL ? NULL : (PyObject *)state->iterator_type;
+    if (type != NULL)
+        state->iterator_type = NULL;
+    Py_XDECREF(type);
+    return 0;
+}
+
+static void module_free(void *module) { module_clear(module); }
+
+/* The second says that interpreters with a lock of their own may load the module. Python knows that slot from 3.12 on, and refuses a module
+ * with another that it doesn't know: so the first is for the older ones. */
+enum { MULTIPLE_INTERPRETERS = 3 };
+static PyModuleDef_Slot older_slots[] = {{Py_mod_exec, execute}, {0, NULL}};
+static PyModuleDef_Slot module_slots[] = {
+    {Py_mod_exec, execute},
+    {MULTIPLE_INTERPRETERS, (void *)2},
+#ifdef Py_GIL_DISABLED
+    {Py_mod_gil, Py_MOD_GIL_NOT_USED},
+#endif
+    {0, NULL},
+};
+static struct PyModuleDef definition = {
+    PyModuleDef_HEAD_INIT, "_tables", "Tables of Python objects. Use slotmap_proved.", sizeof(State), NULL, older_slots, module_traverse, module_clear, module_free,
+};
+
 PyMODINIT_FUNC PyInit__tables(void)
 {
-    PyObject *module = PyModule_Create(&definition);
-    if (module == NULL)
-        return NULL;
-#ifdef Py_GIL_DISABLED
-    PyUnstable_Module_SetGIL(module, Py_MOD_GIL_NOT_USED);
-#endif
-#ifndef Py_GIL_DISABLED
-    pairs_again = PyLong_AsLong(PySys_GetObject("hexversion")) < 0x030e0000;
-#endif
-    iterator_type = (PyTypeObject *)PyType_FromSpec(&iterator_spec);
-    if (iterator_type != NULL && add_type(module, "Map", &map_spec) && add_type(module, "Side", &side_spec))
-        return module;
-    Py_DECREF(module);
-    return NULL;
+    if (PyLong_AsLong(PySys_GetObject("hexversion")) >= 0x030c0000)
+        definition.m_slots = module_slots;
+    return PyModuleDef_Init(&definition);
 }
