@@ -69,7 +69,7 @@ typed() {
     local name folder
     folder=$(mktemp -d "$out/typed-XXXXXX")
     mkdir "$folder/c" "$folder/home"
-    cp -r Makefile slotmap-config* LICENSE LICENSE-slotmap slotmap.h slotmap*.hpp heap.c dist examples python tests "$folder/c"
+    cp -r Makefile slotmap-config* LICENSE* slotmap.h slotmap*.hpp heap.c dist examples python tests "$folder/c"
     for name in "$@"; do
         sed -n "/<!-- typed $name -->/,/<!-- end -->/s/^    //p" ../docs/C.md | sed "s/x86_64-linux/$machine-linux/" >>"$folder/commands"
     done
@@ -178,7 +178,7 @@ if left="sanitizers" has clang clang++; then
 fi
 
 # A copy, so that nothing is built in the folder c.
-cp -r Makefile slotmap-config* LICENSE LICENSE-slotmap slotmap.h slotmap*.hpp heap.c tests examples "$out/"
+cp -r Makefile slotmap-config* LICENSE* slotmap.h slotmap*.hpp heap.c tests examples "$out/"
 make -s -C "$out" install ARCHIVE="$archive" PREFIX=/opt/slotmap DESTDIR="$out/root"
 root=$out/root/opt/slotmap
 if left="pkg-config" has pkg-config; then
@@ -242,7 +242,7 @@ echo "make install: into folders with a space, and uninstall removes all of it"
 # From sources that can't be written, in another folder, whose name has a space.
 sources() { (cd "$out/sources" && find . -newer "$out/before"); }
 mkdir "$out/sources" "$out/else where"
-cp -r Makefile slotmap-config* LICENSE LICENSE-slotmap slotmap.h slotmap*.hpp heap.c tests examples "$out/sources"
+cp -r Makefile slotmap-config* LICENSE* slotmap.h slotmap*.hpp heap.c tests examples "$out/sources"
 cp "$archive" "$out/else where/an archive.a"
 touch "$out/before"
 chmod -R a-w "$out/sources"
@@ -402,10 +402,14 @@ done
 for file in slotmap.h slotmap*.hpp heap.c Makefile CMakeLists.txt python/slotmap_proved/__init__.py python/src/*; do
     head -n 2 "$file" | grep -q "SPDX-License-Identifier: MIT" || { echo "c/test.sh: $file names no licence" >&2; exit 1; }
 done
-for file in LICENSE LICENSE-slotmap; do
-    cmp "../$file" "$file"
-    cmp "../$file" "$root/share/doc/slotmap/$file"
-    [ ! -e "$out/python" ] || cmp "../$file" "$out"/python/slotmap_proved-*.dist-info/licenses/"$file"
+for file in LICENSE LICENSE-slotmap LICENSE-archives; do
+    [ "$file" = LICENSE-archives ] || cmp "../$file" "$file"
+    cmp "$file" "$root/share/doc/slotmap/$file"
+    [ ! -e "$out/python" ] || cmp "$file" "$out"/python/slotmap_proved-*.dist-info/licenses/"$file"
+done
+# What contains parts of the kit's standard library says so.
+for file in python/pyproject.toml python/backend.py python/README.md README.md ../docs/C.md LICENSE-archives "$root/lib/pkgconfig/slotmap.pc"; do
+    grep -q "MIT AND LicenseRef-Rattle-Std" "$file" || { echo "c/test.sh: $file doesn't name the licence of what is built" >&2; exit 1; }
 done
 sha256sum --quiet -c dist/SHA256SUMS
 echo "versions, licences and sums: the same everywhere"

@@ -26,9 +26,10 @@ METADATA = f"""Metadata-Version: 2.4
 Name: slotmap-proved
 Version: {VERSION}
 Summary: A slot map of objects, whose keys are made and retired by proved code
-License-Expression: MIT
+License-Expression: MIT AND LicenseRef-Rattle-Std
 License-File: LICENSE
 License-File: LICENSE-slotmap
+License-File: LICENSE-archives
 Requires-Python: >=3.9
 Description-Content-Type: text/markdown
 
@@ -67,7 +68,7 @@ def contents(machine: str, tag: str) -> "dict[str, bytes]":
     files = {f"{NAME}/{MODULE}": compiled(machine)}
     for name in ("__init__.py", "_tables.pyi", "py.typed"):
         files[f"{NAME}/{name}"] = read(NAME, name)
-    for name in ("LICENSE", "LICENSE-slotmap"):
+    for name in ("LICENSE", "LICENSE-slotmap", "LICENSE-archives"):
         files[f"{INFO}/licenses/{name}"] = read("..", name)
     files[f"{INFO}/METADATA"] = METADATA.encode() + read("README.md")
     tags = "".join(f"Tag: {PYTHON}-{one}\n" for one in tag.split("."))
