@@ -2,7 +2,7 @@
  * Copyright (c) 2026 the Sevlurga maintainers
  *
  * Values of any type in C: an array of one's own. A value stands at its key's index, with the key in it. So a look-up compares
- * two numbers, and calls nothing. The map makes the keys, and no live key's index is above slotmap_capacity. */
+ * two numbers, and calls nothing. A map of keys alone makes the keys, and no live key's index is above slotmap_keys_capacity. */
 #include "slotmap.h"
 #include <stdio.h>
 #include <stdlib.h>
@@ -13,21 +13,21 @@ struct item {
 };
 
 struct world {
-    slotmap_t keys;
+    slotmap_keys_t keys;
     struct item *items;
     size_t len;
 };
 
 static struct item *find(struct world *world, uint64_t key)
 {
-    uint32_t at = (uint32_t)key;
+    uint32_t at = slotmap_index(key);
     return at != 0 && at < world->len && world->items[at].key == key ? &world->items[at] : NULL;
 }
 
 /* Makes the array long enough for each key of the map. */
 static int reach(struct world *world)
 {
-    size_t len = slotmap_capacity(&world->keys) + 1;
+    size_t len = slotmap_keys_capacity(&world->keys) + 1;
     struct item *items = realloc(world->items, len * sizeof *items);
     if (items == NULL)
         return 0;
@@ -40,14 +40,14 @@ static int reach(struct world *world)
 static struct item *add(struct world *world)
 {
     uint64_t key = 0;
-    if (slotmap_insert(&world->keys, 0, &key) != SLOTMAP_OK)
+    if (slotmap_keys_insert(&world->keys, &key) != SLOTMAP_OK)
         return NULL;
-    if ((uint32_t)key >= world->len && !reach(world)) {
-        slotmap_delete(&world->keys, key);
+    if (slotmap_index(key) >= world->len && !reach(world)) {
+        slotmap_keys_remove(&world->keys, key);
         return NULL;
     }
-    world->items[(uint32_t)key].key = key;
-    return &world->items[(uint32_t)key];
+    world->items[slotmap_index(key)].key = key;
+    return &world->items[slotmap_index(key)];
 }
 
 static int take(struct world *world, uint64_t key)
@@ -55,7 +55,7 @@ static int take(struct world *world, uint64_t key)
     struct item *item = find(world, key);
     if (item == NULL)
         return 0;
-    slotmap_delete(&world->keys, key);
+    slotmap_keys_remove(&world->keys, key);
     item->key = 0;
     return 1;
 }
@@ -65,7 +65,7 @@ int main(void)
     struct world world = {SLOTMAP_INIT, NULL, 0};
     static uint64_t keys[1000];
     unsigned i, turn;
-    if (slotmap_new(&world.keys) != SLOTMAP_OK)
+    if (slotmap_keys_open(&world.keys) != SLOTMAP_OK)
         return 1;
     for (turn = 0; turn < 1000; turn++)
         for (i = turn % 7; i < 1000; i += 7) {
@@ -84,8 +84,8 @@ int main(void)
     for (i = 0; i < 1000; i++)
         if (find(&world, keys[i]) == NULL || find(&world, keys[i])->position[0] != (float)i)
             return 4;
-    printf("%u items, %u turns: no stale key was found\n", (unsigned)slotmap_len(&world.keys), turn);
-    slotmap_free(&world.keys);
+    printf("%u items, %u turns: no stale key was found\n", (unsigned)slotmap_keys_len(&world.keys), turn);
+    slotmap_keys_free(&world.keys);
     free(world.items);
     return 0;
 }
