@@ -16,8 +16,9 @@
 # - a second `make install` with another prefix and another archive, one into folders with a space, and `make uninstall`; one in
 #   another folder from sources that can't be written; CMake's add_subdirectory and FetchContent;
 # - the Python package, installed by pip into a folder, from source and as the wheel of c/dist: every call, random calls beside a
-#   model, threads, interpreters, signatures, each allocation refused, and its type hints. PYTHONS="python3.9 .." names other Pythons than python3. A million
-#   random calls are made over the module as gcc's address and undefined-behaviour sanitizers compile it;
+#   model, objects that make calls within calls, threads, interpreters, signatures, each allocation refused, and its type hints.
+#   PYTHONS="python3.9 .." names other Pythons than python3. Random calls are made too over the module as gcc's address and
+#   undefined-behaviour sanitizers compile it;
 # - the program of docs/C.md in C, C++ and Python: each prints what the page says, also by the commands that the page has;
 # - the archive for AArch64 under qemu, and that for x86-64-v2;
 # - that the prototypes of slotmap.h are the exports;
@@ -289,8 +290,9 @@ pip_into() {
 python_tests() {
     [ "$(nm -D --defined-only "$PYTHONPATH"/slotmap_proved/_tables*.so | awk '{ print $3 }')" = PyInit__tables ] ||
         { echo "c/test.sh: the module for Python has other names" >&2; exit 1; }
-    checked "$("$1" --version)" "$1" tests/calls.py
-    checked "$("$1" --version)" "$1" tests/package.py
+    for program in calls dict_calls reenter package; do
+        checked "$("$1" --version)" "$1" "tests/$program.py"
+    done
     same "$1" examples/names.py
     [ ! -e "$out/refuse.so" ] || checked "$("$1" --version)" env LD_PRELOAD="$out/refuse.so" "$1" tests/refused.py
 }
@@ -325,8 +327,11 @@ sanitized_module() {
         cat "$out/errors" >&2
         exit 1
     }
-    checked "sanitizers" env LD_PRELOAD="$(ldd "$module" | awk '/libasan/ { print $3 }')" ASAN_OPTIONS=detect_leaks=0 PYTHONMALLOC=malloc \
-        PYTHONPATH="$folder" PYTHONDONTWRITEBYTECODE=1 "$("$1" -c "import sys; print(sys.executable)")" tests/calls.py 1000000
+    local run=(env LD_PRELOAD="$(ldd "$module" | awk '/libasan/ { print $3 }')" ASAN_OPTIONS=detect_leaks=0 PYTHONMALLOC=malloc
+        PYTHONPATH="$folder" PYTHONDONTWRITEBYTECODE=1 "$("$1" -c "import sys; print(sys.executable)")")
+    checked "sanitizers" "${run[@]}" tests/calls.py 1000000
+    checked "sanitizers" "${run[@]}" tests/dict_calls.py
+    checked "sanitizers" "${run[@]}" tests/reenter.py 200000
 }
 read -r python _ <<<"${PYTHONS:-python3}"
 if left="the Python package with sanitizers" has gcc ldd "$python" && has_headers "$python"; then

@@ -150,100 +150,6 @@ def iteration():
     assert fails(RuntimeError, grow)
 
 
-def many(count, make=lambda number: number):
-    names, ages = SlotMap(), Side()
-    for number in range(count):
-        ages[names.insert(make(number))] = make(number)
-    return names, ages
-
-
-def ahead():
-    """An iterator reads ahead. It shows the values that are set meanwhile, and the keys that took the place of others before it began."""
-    for table in many(300, Value):
-        keys = list(table)
-        for at, (key, value) in enumerate(table.items()):
-            assert key == keys[at] and value.number == (at if at == 0 or at % 3 else at + 1000)
-            for later in range(at + 1, min(at + 80, 300)):
-                if later % 3 == 0:
-                    table[keys[later]] = Value(later + 1000)
-        walk = iter(table.values())
-        assert next(walk).number == 0
-        for key in keys:
-            table[key] = Value(-1)
-        del value
-        assert {one.number for one in walk} == {-1}
-        table.clear()
-        del walk
-    for count in (5000, 100):
-        names, ages = many(count)
-        for table in names, ages:
-            first = list(table), list(table.items()), table.pairs()
-            assert first[0] == [key for key, _ in first[1]] == [key for key, _ in first[2]] == [2**32 + index for index in range(1, count + 1)]
-        for key in list(names)[::2]:
-            del names[key]
-        for number in range(count // 2):
-            ages[names.insert(number)] = number
-        for table in names, ages:
-            assert list(table) == [key for key, _ in table.pairs()] and sum(key >> 32 == 3 for key in table) == count // 2
-            assert all(table[key] == value for key, value in table.items())
-
-
-class Stepping:
-    """An object whose end takes a step of an iterator."""
-
-    def __init__(self, walk):
-        self.walk = walk
-
-    def __del__(self):
-        self.walk.append(next(self.walk[0]))
-
-
-def same_pair():
-    """A pair that nobody has is returned again with other contents. Nobody notices."""
-    names, _ = many(100, lambda number: [number])
-    assert [hash((key, number[0])) for key, number in names.items()] == [hash((key, number[0])) for key, number in names.pairs()]
-    assert list(map(id, list(names.items()))) != [id(0)] * 100 and len(set(map(id, list(names.items())))) == 100
-    walk = iter(names.items())
-    one, two = next(walk), next(walk)
-    assert one == (A, [0]) and two == (B, [1]) and one is not two
-    names, _ = many(100)
-    assert list(map(hash, names.items())) == list(map(hash, names.pairs()))
-    # The end of the pair's old value takes a step: of the same iterator, in the middle of another.
-    names = SlotMap()
-    keys = [names.insert(number) for number in range(100)]
-    walk = iter(names.items())
-    taken = [walk]
-    for key in keys[::7]:
-        names[key] = Stepping(taken)
-    for key in keys[::7]:
-        names[key] = 5
-    shown = [pair for pair in walk]
-    assert sorted(shown + taken[1:]) == names.pairs()
-    walk = iter(names.items())
-    taken[:] = [walk]
-    names[keys[1]] = Stepping(taken)
-    shown = []
-    for key, value in walk:
-        if key == keys[1]:
-            del value
-            names[key] = 6
-        shown.append(key)
-    assert sorted(shown + [key for key, _ in taken[1:]]) == keys and len(taken) == 2
-    # A pair of which the collector lost sight leads to a cycle.
-    names = SlotMap()
-    keys = [names.insert(number) for number in range(3)]
-    walk = iter(names.items())
-    next(walk)
-    gc.collect()
-    value = [Value(1)]
-    names[keys[1]] = value
-    pair = next(walk)
-    value.append(pair)
-    del names, walk, pair, value, taken
-    gc.collect()
-    assert Value.alive == 0
-
-
 def beside():
     names, ages = SlotMap(), Side()
     a = names.insert(1)
@@ -462,9 +368,59 @@ class Model:
         key = self.some()
         assert self.ages.pop(key, None) is self.aside.pop(key, None)
 
+    def first(self):
+        for table, model in (self.names, self.live), (self.ages, self.aside):
+            if not model:
+                assert fails(KeyError, table.popitem)
+                continue
+            key = min(model, key=lambda key: key % 2**32)
+            found = table.popitem()
+            assert found == (key, model.pop(key)) and next(iter(found)) == key
+            if model is self.live:
+                self.vacant.append(key + 2**33)
+
+    def default(self):
+        key, value = self.some(), Value(3)
+        older = next((one for one in self.aside if one % 2**32 == key % 2**32), None)
+        if key == 0 or (older is not None and older >> 32 > key >> 32):
+            assert fails(KeyError, self.ages.setdefault, key, value)
+        elif key in self.aside:
+            assert self.ages.setdefault(key, value) is self.aside[key]
+        else:
+            assert self.ages.setdefault(key, value) is value
+            self.aside.pop(older, None)
+            self.aside[key] = value
+
+    def update(self):
+        """With what is set in each turn up to one that is refused."""
+        pairs = [(self.some(), Value(4)) for _ in range(self.chance.randrange(5))]
+        others = pairs, iter(pairs), dict(pairs)
+        other = self.chance.choice(others)
+        last = self.chance.random() < 0.5
+        table, model = (self.names, self.live) if last else (self.ages, self.aside)
+        refused = False
+        for key, value in dict(pairs).items() if other is others[2] else pairs:
+            older = next((one for one in self.aside if one % 2**32 == key % 2**32), None)
+            refused = key not in model if last else key == 0 or (older is not None and older >> 32 > key >> 32)
+            if refused:
+                break
+            if not last:
+                model.pop(older, None)
+            model[key] = value
+        if last or refused:
+            assert fails(KeyError, table.update, other) == refused
+        elif other is others[2] and self.chance.random() < 0.5:
+            before = self.ages
+            self.ages = before | other
+            assert self.ages is not before
+        else:
+            table |= other
+            assert table is self.ages
+
     def compare(self):
         for table, model in (self.names, self.live), (self.ages, self.aside):
             assert sorted(model.items(), key=lambda pair: pair[0] % 2**32) == list(table.items()) == table.pairs() and len(table) == len(model)
+            assert list(reversed(table)) == list(table)[::-1] and list(reversed(table.items())) == table.pairs()[::-1]
 
     def clear(self):
         if self.chance.random() < 0.01:
@@ -481,7 +437,8 @@ class Model:
         if what < 0.3 and len(self.live) < 50:
             return self.insert()
         calls = (self.remove, self.remove, self.detach, self.reattach, self.set, self.find, self.find, self.put, self.put, self.take, self.clear)
-        return calls[int(what * 1000) % len(calls)]()
+        calls += (self.first, self.default, self.update)
+        return calls[int(what * 10000) % len(calls)]()
 
 
 def random_calls(count, seed):
@@ -500,7 +457,7 @@ def random_calls(count, seed):
 
 
 def main():
-    for test in (one_key, no_keys, all_keys, iteration, ahead, same_pair, beside, copies, cycles, finalizers, threads):
+    for test in (one_key, no_keys, all_keys, iteration, beside, copies, cycles, finalizers, threads):
         test()
     count = int(sys.argv[1]) if len(sys.argv) > 1 else 100000
     random_calls(count, int(sys.argv[2]) if len(sys.argv) > 2 else 7)

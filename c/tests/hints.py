@@ -2,7 +2,7 @@
 
 from __future__ import annotations
 
-from typing import Mapping, Optional, Union
+from typing import Mapping, MutableMapping, Optional, Union
 
 from slotmap_proved import Side, SlotMap
 
@@ -25,7 +25,22 @@ stood: Optional[tuple[int, int]] = ages.exchange(key, 6)
 named: Named = Named().copy()
 pairs: list[tuple[int, str]] = names.pairs()
 mapping: Mapping[int, str] = names
+mutable: MutableMapping[int, int] = ages
+names.update({key: "lake"})
+names.update([(key, "lake")])
+first: tuple[int, str] = names.popitem()
+age: int = ages.setdefault(key, 7)
+ages |= {key: 8}
+ages |= [(key, 8)]
+both: Side[int] = ages | {key: 9}
+for key in reversed(names):
+    text = names[key]
+for key, text in reversed(names.items()):
+    key = next(reversed(names.keys()))
 names.insert(5)  # type: ignore[arg-type]
 names["x"]  # type: ignore[index]
 ages[key] = "x"  # type: ignore[assignment]
 names.insert(value="x")  # type: ignore[call-arg]
+names.update({key: 5})  # type: ignore[arg-type]
+names.setdefault(key, "x")  # type: ignore[attr-defined]
+names | names  # type: ignore[operator]

@@ -45,6 +45,9 @@ def use(run):
         if number % 3 == 0:
             run.call(ages.__setitem__, keys[-1], [number], state=state)
     run.call(ages.exchange, keys[20], 5, state=state)
+    run.call(ages.setdefault, keys[35], 6, state=state)
+    run.call(reversed, names, state=state)
+    run.call(names.popitem, state=state), run.call(ages.popitem, state=state)
     names.pop(keys[4]), names.detach(keys[5])
     keys.append(run.call(names.insert, "again", state=state))
     run.call(names.reserve, 200, state=state)
@@ -76,6 +79,47 @@ def unknown_keys():
     assert names[names.insert(value)] is value
 
 
+def all_or_nothing():
+    """A call for which Python's own memory is refused changes nothing, or does all and returns what it has to."""
+    try:
+        from _testcapi import remove_mem_hooks, set_nomemory
+    except ImportError:
+        return
+    gc.collect()
+    values = [object() for _ in range(4)]
+    for call in "exchange", "exchange older", "popitem", "popitem side", "setdefault":
+        raised = 0
+        for at in range(12):
+            names, ages = SlotMap(), Side()
+            key, other = names.insert(values[0]), names.insert(values[1])
+            ages[key] = values[2]
+            before = names.pairs(), ages.pairs()
+            make, given = {
+                "exchange": (ages.exchange, (key, values[3])),
+                "exchange older": (ages.exchange, (key + 2**33, values[3])),
+                "popitem": (names.popitem, ()),
+                "popitem side": (ages.popitem, ()),
+                "setdefault": (ages.setdefault, (other, values[3])),
+            }[call]
+            result = None
+            counts = [sys.getrefcount(value) for value in values]
+            set_nomemory(at, at + 1)
+            try:
+                result = make(*given)
+            except MemoryError:
+                result = MemoryError
+            finally:
+                remove_mem_hooks()
+            if result is MemoryError:
+                raised += 1
+                assert (names.pairs(), ages.pairs()) == before and counts == [sys.getrefcount(value) for value in values], (call, at)
+            elif call == "setdefault":
+                assert result is values[3] is ages[other]
+            else:
+                assert result == (key, values[0] if call == "popitem" else values[2]), (call, at, result)
+        assert raised > 0 or call == "setdefault", call
+
+
 def main():
     first = Run(0, 0)
     expected = use(first)
@@ -90,6 +134,7 @@ def main():
                 break
             turn += 1
     unknown_keys()
+    all_or_nothing()
     names = SlotMap()
     for _ in range(100):
         refuse_after(0)

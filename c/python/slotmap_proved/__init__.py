@@ -8,16 +8,17 @@
     river = names.insert("river")
     assert names[river] == "river" and names.pop(river) == "river" and river not in names
 
-A `Side` has further objects under the keys of a map. Both are a `Mapping`, and generic: `SlotMap[str]`.
+A `Side` has further objects under the keys of a map. A `SlotMap` is a `Mapping`, a `Side` a `MutableMapping`. Both are generic: `SlotMap[str]`.
 
 The proved calls of slotmap.h hold the objects, by their pointers. The extension module around them, which counts references, is tested,
-not proved. Each call is atomic, as those of a dict: CPython holds the interpreter's lock, or where it has none the map's own.
+not proved. Each call is atomic, as those of a dict, but for `update`, `|` and `deepcopy`: CPython holds the interpreter's lock, or where it
+has none the map's own.
 """
 
 from __future__ import annotations
 
 import copyreg
-from collections.abc import Callable, ItemsView, Iterator, Mapping, ValuesView
+from collections.abc import Callable, ItemsView, Iterable, Iterator, KeysView, Mapping, MutableMapping, ValuesView
 from copy import deepcopy
 from typing import TYPE_CHECKING, Any, NoReturn, TypeVar
 
@@ -33,12 +34,26 @@ _T = TypeVar("_T")
 _Both = TypeVar("_Both", bound="_tables._Table[Any]")
 
 
+class _Keys(KeysView[int]):
+    __slots__ = ()
+    _mapping: SlotMap[Any] | Side[Any]
+
+    def __iter__(self) -> Iterator[int]:
+        return iter(self._mapping)
+
+    def __reversed__(self) -> Iterator[int]:
+        return reversed(self._mapping)
+
+
 class _Values(ValuesView[_T]):
     __slots__ = ()
     _mapping: SlotMap[_T] | Side[_T]
 
     def __iter__(self) -> Iterator[_T]:
         return self._mapping._values()
+
+    def __reversed__(self) -> Iterator[_T]:
+        return self._mapping._reversed_values()
 
 
 class _Items(ItemsView[int, _T]):
@@ -47,6 +62,19 @@ class _Items(ItemsView[int, _T]):
 
     def __iter__(self) -> Iterator[tuple[int, _T]]:
         return self._mapping._items()
+
+    def __reversed__(self) -> Iterator[tuple[int, _T]]:
+        return self._mapping._reversed_items()
+
+
+def _set_each(table: SlotMap[_T] | Side[_T], other: Any) -> None:
+    """Sets a value for each pair of `other`, one after the other: a mapping, what has `keys`, or an iterable of pairs."""
+    if hasattr(other, "keys"):
+        for key in other.keys():
+            table[key] = other[key]
+    else:
+        for key, value in other:
+            table[key] = value
 
 
 def _give_attributes(table: _Both, copy: _Both, changed: Callable[[Any], Any]) -> None:
@@ -90,11 +118,18 @@ class SlotMap(_tables.Map[_T], Mapping[int, _T]):
     def __sizeof__(self) -> int:
         return super().__sizeof__() + 24 * self.capacity()
 
+    def keys(self) -> KeysView[int]:
+        return _Keys(self)
+
     def values(self) -> ValuesView[_T]:
         return _Values(self)
 
     def items(self) -> ItemsView[int, _T]:
         return _Items(self)
+
+    def update(self, other: Mapping[int, _T] | Iterable[tuple[int, _T]] = (), /) -> None:
+        """Sets the value of each live key in a mapping or in pairs. At a key that isn't live it raises KeyError, and sets no more."""
+        _set_each(self, other)
 
     def copy(self) -> Self:
         """Returns a copy, with the same objects under the same keys, which will make the same new keys. One of a subclass has its attributes."""
@@ -109,7 +144,7 @@ class SlotMap(_tables.Map[_T], Mapping[int, _T]):
         raise TypeError(f"a {type(self).__name__} can't be pickled; its pairs() can")
 
 
-class Side(_tables.Side[_T], Mapping[int, _T]):
+class Side(_tables.Side[_T], MutableMapping[int, _T]):  # type: ignore[misc]
     """Further objects under the keys of a map, at most one for each index. A newer key takes the place of an older one. Never the reverse:
     `side[key] = value` raises KeyError if a newer key has a value at this index.
 
@@ -125,11 +160,39 @@ class Side(_tables.Side[_T], Mapping[int, _T]):
     def __sizeof__(self) -> int:
         return super().__sizeof__() + 24 * self.capacity()
 
+    def keys(self) -> KeysView[int]:
+        return _Keys(self)
+
     def values(self) -> ValuesView[_T]:
         return _Values(self)
 
     def items(self) -> ItemsView[int, _T]:
         return _Items(self)
+
+    def update(self, other: Mapping[int, _T] | Iterable[tuple[int, _T]] = (), /) -> None:  # type: ignore[override]
+        """Puts each value of a mapping or of pairs under its key. At one that would be refused it raises KeyError, and puts no more."""
+        _set_each(self, other)
+
+    def __or__(self, other: Mapping[int, _T]) -> Self:
+        """Returns a copy with what `update` puts."""
+        if not isinstance(other, Mapping):
+            return NotImplemented
+        made = self.copy()
+        made.update(other)
+        return made
+
+    def __ror__(self, other: Mapping[int, _T]) -> Self:
+        if not isinstance(other, Mapping):
+            return NotImplemented
+        made = self.copy()
+        made.clear()
+        made.update(other)
+        made.update(self)
+        return made
+
+    def __ior__(self, other: Mapping[int, _T] | Iterable[tuple[int, _T]]) -> Self:
+        self.update(other)
+        return self
 
     def copy(self) -> Self:
         """Returns a copy, with the same objects under the same keys. One of a subclass has its attributes."""

@@ -209,6 +209,49 @@ static PyObject *pop(PyObject *self, PyObject *const *arguments, Py_ssize_t coun
     return read_default("pop", arguments, count, names, read) ? taken(table_remove, self, read[0], read[1]) : NULL;
 }
 
+/* An empty pair, hidden from the collector, so that nobody else can have it until it is filled. To make one may run Python code. */
+static PyObject *empty_pair(void)
+{
+    PyObject *pair = PyTuple_New(2);
+    if (pair != NULL)
+        PyObject_GC_UnTrack(pair);
+    return pair;
+}
+
+/* Fills a pair, which takes over both references. */
+static PyObject *filled(PyObject *pair, PyObject *number, PyObject *value)
+{
+    PyTuple_SetItem(pair, 0, number);
+    PyTuple_SetItem(pair, 1, value);
+    PyObject_GC_Track(pair);
+    return pair;
+}
+
+/* All that can fail comes before the removal. */
+static PyObject *popitem(PyObject *self, PyObject *unused)
+{
+    uint64_t key = 0;
+    PyObject *pair = empty_pair(), *number = NULL, *value = NULL;
+    slotmap_status status = pair == NULL ? SLOTMAP_NO_MEMORY : SLOTMAP_NOT_LIVE;
+    (void)unused;
+    /* Without the interpreter's lock another thread may take the key first. */
+    while (status == SLOTMAP_NOT_LIVE) {
+        Py_XDECREF(number);
+        number = NULL;
+        status = table_first((Table *)self, &key);
+        if (status == SLOTMAP_OK)
+            status = (number = PyLong_FromSize_t(key)) == NULL ? SLOTMAP_NO_MEMORY : table_remove((Table *)self, key, &value);
+    }
+    if (status == SLOTMAP_OK)
+        return filled(pair, number, value);
+    Py_XDECREF(number);
+    Py_XDECREF(pair);
+    if (status == SLOTMAP_NO_MEMORY)
+        return PyErr_NoMemory();
+    PyErr_SetString(PyExc_KeyError, "popitem(): there is no key");
+    return NULL;
+}
+
 static PyObject *clear_all(PyObject *self, PyObject *unused)
 {
     (void)unused;
@@ -274,7 +317,6 @@ static PyObject *pairs(PyObject *self, PyObject *unused)
     slotmap_status status = table_list((Table *)self, &keys, &values, &count);
     PyObject *list = status == SLOTMAP_OK ? list_of(keys, values, count) : fail(status, Py_None);
     free(keys);
-    free(values);
     return list;
 }
 
@@ -289,7 +331,7 @@ static State *state_of(PyObject *self)
     return PyType_GetModuleState(type);
 }
 
-static PyObject *iterate(PyObject *self, enum of of)
+static PyObject *iterate(PyObject *self, enum of of, bool backwards)
 {
     State *state = state_of(self);
     if (state == NULL || state->iterator_type == NULL) {
@@ -303,27 +345,31 @@ static PyObject *iterate(PyObject *self, enum of of)
     /* It may collect, and so run Python code. */
     made->pair = of == ITEMS && state->pairs_again ? PyTuple_Pack(2, Py_None, Py_None) : NULL;
     PyErr_Clear();
+    made->of = of;
+    if (!backwards) {
+        table_begin((Table *)self, &made->ahead);
+    } else if (table_begin_last((Table *)self, &made->ahead) != SLOTMAP_OK) {
+        Py_DECREF(made);
+        return PyErr_NoMemory();
+    }
     Py_INCREF(self);
     made->over = (Table *)self;
-    made->ahead.last = SLOTMAP_START;
-    made->ahead.changes = made->over->changes;
-    made->of = of;
     return (PyObject *)made;
 }
 
-static PyObject *iterate_keys(PyObject *self) { return iterate(self, KEYS); }
+static PyObject *iterate_keys(PyObject *self) { return iterate(self, KEYS, false); }
 
-static PyObject *iterate_values(PyObject *self, PyObject *unused)
-{
-    (void)unused;
-    return iterate(self, VALUES);
-}
-
-static PyObject *iterate_items(PyObject *self, PyObject *unused)
-{
-    (void)unused;
-    return iterate(self, ITEMS);
-}
+#define ITERATION(name, of, backwards) \
+    static PyObject *name(PyObject *self, PyObject *unused) \
+    { \
+        (void)unused; \
+        return iterate(self, of, backwards); \
+    }
+ITERATION(iterate_values, VALUES, false)
+ITERATION(iterate_items, ITEMS, false)
+ITERATION(reversed_keys, KEYS, true)
+ITERATION(reversed_values, VALUES, true)
+ITERATION(reversed_items, ITEMS, true)
 
 /* After its last an iterator lets its table go. One whose keys changed keeps it, and fails again, as that of a dict. */
 static PyObject *no_next(Iterator *self, slotmap_status status)
@@ -395,6 +441,7 @@ static void iterator_dealloc(PyObject *self)
     PyTypeObject *type = Py_TYPE(self);
     PyObject_GC_UnTrack(self);
     iterator_clear(self);
+    free(((Iterator *)self)->ahead.all);
     freefunc end = (freefunc)PyType_GetSlot(type, Py_tp_free);
     end(self);
     Py_DECREF(type);
@@ -459,27 +506,52 @@ static PyObject *new_side(PyTypeObject *type, PyObject *arguments, PyObject *nam
 
 static int put(PyObject *self, PyObject *object, PyObject *value)
 {
-    uint64_t key, older;
+    uint64_t key;
     PyObject *old = NULL;
     if (!read_key(object, &key))
         return -1;
-    slotmap_status status = value == NULL ? table_remove((Table *)self, key, &old) : table_put((Table *)self, key, value, &older, &old);
+    slotmap_status status = value == NULL ? table_remove((Table *)self, key, &old) : table_put((Table *)self, key, value, &old);
     Py_XDECREF(old);
     return status == SLOTMAP_OK ? 0 : (fail(status, object), -1);
 }
 
+static PyObject *set_default(PyObject *self, PyObject *const *arguments, Py_ssize_t count, PyObject *names)
+{
+    uint64_t key;
+    PyObject *read[2] = {NULL, Py_None}, *found = NULL, *old = NULL;
+    if (!read_default("setdefault", arguments, count, names, read) || !read_key(read[0], &key))
+        return NULL;
+    slotmap_status status = table_put_default((Table *)self, key, read[1], &found, &old);
+    Py_XDECREF(old);
+    return status == SLOTMAP_OK ? found : fail(status, read[0]);
+}
+
+/* The pair is made before the exchange, for the key that stands there then: what comes after the exchange can't fail. */
 static PyObject *exchange(PyObject *self, PyObject *arguments)
 {
     uint64_t key, older;
-    PyObject *object = NULL, *value = NULL, *old = NULL;
+    PyObject *object = NULL, *value = NULL, *pair = NULL, *number = NULL, *old = NULL;
     if (!PyArg_UnpackTuple(arguments, "exchange", 2, 2, &object, &value) || !read_key(object, &key))
         return NULL;
-    slotmap_status status = table_put((Table *)self, key, value, &older, &old);
+    slotmap_status status = TABLE_CHANGED;
+    while (status == TABLE_CHANGED) {
+        older = table_at((Table *)self, key);
+        if (older != 0 && pair == NULL) {
+            if ((pair = empty_pair()) == NULL)
+                return NULL;
+            continue;
+        }
+        Py_XDECREF(number);
+        number = older == 0 ? NULL : PyLong_FromSize_t(older);
+        status = older != 0 && number == NULL ? SLOTMAP_NO_MEMORY : table_exchange((Table *)self, key, value, older, &old);
+    }
+    if (status == SLOTMAP_OK && older != 0)
+        return filled(pair, number, old);
+    Py_XDECREF(number);
+    Py_XDECREF(pair);
     if (status != SLOTMAP_OK)
         return fail(status, object);
-    if (old == NULL)
-        Py_RETURN_NONE;
-    return pair_of(PyLong_FromSize_t(older), old);
+    Py_RETURN_NONE;
 }
 
 /* ---- The module ---- */
@@ -496,12 +568,16 @@ static PyObject *exchange(PyObject *self, PyObject *arguments)
     {"get", NAMED(get), METH_FASTCALL | METH_KEYWORDS, SIGNED("get($self, key, default=None)", "The value of a key, or the default.")}, \
     {"pop", NAMED(pop), METH_FASTCALL | METH_KEYWORDS, \
      SIGNED("pop($self, key, default=...)", "Removes a key, and returns its value, or the default. Without a default it raises KeyError.")}, \
+    {"popitem", popitem, METH_NOARGS, SIGNED("popitem($self, /)", "Removes the first key, and returns it with its value. Without a key it raises KeyError.")}, \
     {"clear", clear_all, METH_NOARGS, SIGNED("clear($self, /)", "Removes every key.")}, \
     {"capacity", capacity, METH_NOARGS, SIGNED("capacity($self, /)", "The largest index for which there is memory.")}, \
     {"pairs", pairs, METH_NOARGS, SIGNED("pairs($self, /)", "All keys with their values, by ascending index, as a list, in one step.")}, \
     {"_duplicate", duplicate, METH_NOARGS, SIGNED("_duplicate($self, /)", "A copy without attributes.")}, \
     {"_values", iterate_values, METH_NOARGS, SIGNED("_values($self, /)", "An iterator over the values.")}, \
     {"_items", iterate_items, METH_NOARGS, SIGNED("_items($self, /)", "An iterator over pairs.")}, \
+    {"__reversed__", reversed_keys, METH_NOARGS, SIGNED("__reversed__($self, /)", "An iterator over the keys, by descending index.")}, \
+    {"_reversed_values", reversed_values, METH_NOARGS, SIGNED("_reversed_values($self, /)", "An iterator over the values, backwards.")}, \
+    {"_reversed_items", reversed_items, METH_NOARGS, SIGNED("_reversed_items($self, /)", "An iterator over pairs, backwards.")}, \
     {"__class_getitem__", Py_GenericAlias, METH_O | METH_CLASS, SIGNED("__class_getitem__($type, item, /)", "For type hints.")}
 #define SHARED_SLOTS \
     {Py_tp_init, no_arguments}, {Py_tp_dealloc, dealloc}, {Py_tp_traverse, traverse}, {Py_tp_clear, clear}, {Py_tp_iter, iterate_keys}, \
@@ -517,6 +593,8 @@ static PyMethodDef map_methods[] = {
 };
 static PyMethodDef side_methods[] = {
     SHARED_METHODS,
+    {"setdefault", NAMED(set_default), METH_FASTCALL | METH_KEYWORDS,
+     SIGNED("setdefault($self, key, default=None)", "The value of a key; if it has none, the default is put first.")},
     {"exchange", exchange, METH_VARARGS,
      SIGNED("exchange($self, key, value, /)", "Puts a value, and returns the key that stood at this index, with its value, or None.")},
     {"reserve", reserve, METH_O, SIGNED("reserve($self, index, /)", "Makes sure of memory for each index up to a number.")},

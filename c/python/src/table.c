@@ -19,20 +19,37 @@ static uint64_t number_of(PyObject *object) { return (uint64_t)(uintptr_t)object
 
 slotmap_status table_open(Table *table) { return table->is_side ? slotmap_side_new(&table->in.side) : slotmap_new(&table->in.map); }
 
-/* The next key of a side table whose index is above that of another. */
-static slotmap_status next_of_side(Table *side, uint64_t after, uint64_t *key, uint64_t *value)
+/* The first keys of a side table whose index is above another. */
+static size_t list_side(Table *side, uint32_t after, uint64_t *keys, uint64_t *values, size_t most)
 {
-    for (size_t at = (size_t)(uint32_t)after + 1; at < side->room; at++)
-        if (side->keys[at] != 0) {
-            *key = side->keys[at];
-            return slotmap_side_get(&side->in.side, *key, value);
-        }
-    return SLOTMAP_NO_MORE;
+    size_t count = 0;
+    for (size_t at = (size_t)after + 1; at < side->room && count < most; at++)
+        if (side->keys[at] != 0 && slotmap_side_get(&side->in.side, side->keys[at], &values[count]) == SLOTMAP_OK)
+            keys[count++] = side->keys[at];
+    return count;
+}
+
+/* The first keys with their values whose index is above that of another, as far as the arrays go. Here and below: without the lock. */
+static size_t list_after(Table *table, uint64_t after, uint64_t *keys, uint64_t *values, size_t most)
+{
+    uint32_t from = (uint32_t)after > table->vacant ? (uint32_t)after : table->vacant;
+    size_t count = table->is_side ? list_side(table, from, keys, values, most) : slotmap_list_after(&table->in.map, from, keys, most, values, most);
+    if (count > 0 && from == table->vacant)
+        table->vacant = (uint32_t)keys[0] - 1;
+    return count;
 }
 
 static slotmap_status next_of(Table *table, uint64_t after, uint64_t *key, uint64_t *value)
 {
-    return table->is_side ? next_of_side(table, after, key, value) : slotmap_next(&table->in.map, after, key, value);
+    return list_after(table, after, key, value, 1) > 0 ? SLOTMAP_OK : SLOTMAP_NO_MORE;
+}
+
+/* Counts that a key became live. */
+static void comes(Table *table, uint64_t key)
+{
+    table->changes++;
+    if ((uint32_t)key <= table->vacant)
+        table->vacant = (uint32_t)key - 1;
 }
 
 void table_end(Table *table)
@@ -123,7 +140,6 @@ bool table_contains(Table *table, uint64_t key)
     return found;
 }
 
-/* Without the lock. */
 static slotmap_status get_of(Table *table, uint64_t key, uint64_t *number)
 {
     return table->is_side ? slotmap_side_get(&table->in.side, key, number) : slotmap_get(&table->in.map, key, number);
@@ -141,7 +157,6 @@ slotmap_status table_get(Table *table, uint64_t key, PyObject **value)
     return status;
 }
 
-/* Without the lock. */
 static slotmap_status remove_key(Table *table, uint64_t key, uint64_t *number)
 {
     slotmap_status status = table->is_side ? slotmap_side_remove(&table->in.side, key, number) : slotmap_remove(&table->in.map, key, number);
@@ -172,7 +187,7 @@ slotmap_status table_insert(Table *map, PyObject *value, uint64_t *key)
     status = slotmap_insert(&map->in.map, number_of(value), key);
     if (status == SLOTMAP_OK) {
         Py_INCREF(value);
-        map->changes++;
+        comes(map, *key);
     }
     UNLOCKED()
     return status;
@@ -214,49 +229,149 @@ slotmap_status table_reattach(Table *map, uint64_t key, PyObject *value)
     status = slotmap_reattach(&map->in.map, key, number_of(value));
     if (status == SLOTMAP_OK) {
         Py_INCREF(value);
-        map->changes++;
+        comes(map, key);
     }
     UNLOCKED()
     return status;
 }
 
-slotmap_status table_put(Table *side, uint64_t key, PyObject *value, uint64_t *older, PyObject **old)
+static slotmap_status put_of(Table *side, uint64_t key, PyObject *value, uint64_t *old)
+{
+    uint64_t older = 0;
+    /* For a number that no map returns, which is refused, there is no room either. */
+    slotmap_status status = key == SLOTMAP_NULL ? SLOTMAP_NO_ENTRY : make_room(side, (uint32_t)key);
+    if (status == SLOTMAP_OK)
+        status = slotmap_side_exchange(&side->in.side, key, number_of(value), &older, old);
+    if (status != SLOTMAP_OK)
+        return status;
+    Py_INCREF(value);
+    side->writes++;
+    if (older != key)
+        comes(side, key);
+    side->keys[(uint32_t)key] = key;
+    return SLOTMAP_OK;
+}
+
+slotmap_status table_put(Table *side, uint64_t key, PyObject *value, PyObject **old)
 {
     slotmap_status status;
     uint64_t number = 0;
-    *older = 0;
     LOCKED(side)
-    /* For a number that no map returns, which is refused, there is no room either. */
-    status = key == SLOTMAP_NULL ? SLOTMAP_NO_ENTRY : make_room(side, (uint32_t)key);
-    if (status == SLOTMAP_OK)
-        status = slotmap_side_exchange(&side->in.side, key, number_of(value), older, &number);
-    if (status == SLOTMAP_OK) {
-        Py_INCREF(value);
-        side->changes += *older != key;
-        side->writes++;
-        side->keys[(uint32_t)key] = key;
-    }
+    status = put_of(side, key, value, &number);
     UNLOCKED()
     *old = table_object(number);
     return status;
 }
 
-/* Without the lock: reads the first pairs after a key. The first look reads a few, since many iterators are asked once. */
+static uint64_t at_index(Table *side, uint64_t key) { return (uint32_t)key < side->room ? side->keys[(uint32_t)key] : 0; }
+
+uint64_t table_at(Table *side, uint64_t key)
+{
+    uint64_t found;
+    LOCKED(side)
+    found = at_index(side, key);
+    UNLOCKED()
+    return found;
+}
+
+slotmap_status table_exchange(Table *side, uint64_t key, PyObject *value, uint64_t older, PyObject **old)
+{
+    slotmap_status status = TABLE_CHANGED;
+    uint64_t number = 0;
+    LOCKED(side)
+    if (at_index(side, key) == older)
+        status = put_of(side, key, value, &number);
+    UNLOCKED()
+    *old = table_object(number);
+    return status;
+}
+
+slotmap_status table_put_default(Table *side, uint64_t key, PyObject *value, PyObject **found, PyObject **old)
+{
+    slotmap_status status;
+    uint64_t number = 0, there = number_of(value);
+    LOCKED(side)
+    status = get_of(side, key, &there);
+    if (status != SLOTMAP_OK)
+        status = put_of(side, key, value, &number);
+    if (status == SLOTMAP_OK)
+        Py_INCREF(*found = table_object(there));
+    UNLOCKED()
+    *old = table_object(number);
+    return status;
+}
+
+slotmap_status table_first(Table *table, uint64_t *key)
+{
+    slotmap_status status = SLOTMAP_NO_MORE;
+    uint64_t number = 0;
+    LOCKED(table)
+    if ((table->is_side ? slotmap_side_len(&table->in.side) : slotmap_len(&table->in.map)) > 0)
+        status = next_of(table, SLOTMAP_START, key, &number);
+    UNLOCKED()
+    return status;
+}
+
+void table_begin(Table *table, Ahead *ahead)
+{
+    ahead->keys = ahead->few;
+    ahead->values = ahead->few + AHEAD;
+    ahead->last = SLOTMAP_START;
+    LOCKED(table)
+    ahead->changes = table->changes;
+    UNLOCKED()
+}
+
+/* Two arrays for all keys and values. */
+static uint64_t *arrays_for(Table *table, size_t *most)
+{
+    *most = table->is_side ? slotmap_side_len(&table->in.side) : slotmap_len(&table->in.map);
+    return malloc(2 * (*most + 1) * sizeof(uint64_t));
+}
+
+static slotmap_status begin_last(Table *table, Ahead *ahead)
+{
+    size_t most;
+    uint64_t *keys = ahead->all = arrays_for(table, &most);
+    if (keys == NULL)
+        return SLOTMAP_NO_MEMORY;
+    uint64_t *values = keys + most;
+    size_t count = list_after(table, SLOTMAP_START, keys, values, most);
+    for (size_t i = 0; i < count / 2; i++) {
+        uint64_t key = keys[i], value = values[i];
+        keys[i] = keys[count - 1 - i];
+        values[i] = values[count - 1 - i];
+        keys[count - 1 - i] = key;
+        values[count - 1 - i] = value;
+    }
+    ahead->keys = keys;
+    ahead->values = values;
+    ahead->count = count;
+    ahead->changes = table->changes;
+    ahead->writes = table->writes;
+    return SLOTMAP_OK;
+}
+
+slotmap_status table_begin_last(Table *table, Ahead *ahead)
+{
+    slotmap_status status;
+    LOCKED(table)
+    status = begin_last(table, ahead);
+    UNLOCKED()
+    return status;
+}
+
+/* Reads the next pairs. The first look reads a few, since many iterators are asked once. */
 static void read_ahead(Table *table, Ahead *ahead)
 {
     size_t most = ahead->last == SLOTMAP_START ? AHEAD / 8 : AHEAD;
-    ahead->at = ahead->count = 0;
+    ahead->at = 0;
     ahead->writes = table->writes;
-    if (!table->is_side)
-        ahead->count = slotmap_list_after(&table->in.map, ahead->last, ahead->keys, most, ahead->values, most);
-    else
-        for (uint64_t key = ahead->last; ahead->count < most && next_of_side(table, key, &key, &ahead->values[ahead->count]) == SLOTMAP_OK; ahead->count++)
-            ahead->keys[ahead->count] = key;
+    ahead->count = ahead->all != NULL ? 0 : list_after(table, ahead->last, ahead->keys, ahead->values, most);
     if (ahead->count > 0)
         ahead->last = ahead->keys[ahead->count - 1];
 }
 
-/* Without the lock. */
 static slotmap_status step_of(Table *table, Ahead *ahead, uint64_t *key, uint64_t *number)
 {
     if (table->changes != ahead->changes)
@@ -329,20 +444,16 @@ size_t table_drain(Table *table, uint64_t after, uint64_t *keys, uint64_t *value
     return count;
 }
 
-/* Without the lock. */
 static slotmap_status list_all(Table *table, uint64_t **keys, uint64_t **values, size_t *count)
 {
-    uint64_t key = SLOTMAP_START, value = 0;
-    size_t most = table->is_side ? slotmap_side_len(&table->in.side) : slotmap_len(&table->in.map);
-    *keys = malloc((most + 1) * sizeof **keys);
-    *values = malloc((most + 1) * sizeof **values);
-    if (*keys == NULL || *values == NULL)
+    size_t most;
+    *keys = arrays_for(table, &most);
+    if (*keys == NULL)
         return SLOTMAP_NO_MEMORY;
-    for (; *count < most && next_of(table, key, &key, &value) == SLOTMAP_OK; ++*count) {
-        (*keys)[*count] = key;
-        (*values)[*count] = value;
-        Py_INCREF(table_object(value));
-    }
+    *values = *keys + most;
+    *count = list_after(table, SLOTMAP_START, *keys, *values, most);
+    for (size_t i = 0; i < *count; i++)
+        Py_INCREF(table_object((*values)[i]));
     return SLOTMAP_OK;
 }
 
@@ -356,7 +467,6 @@ slotmap_status table_list(Table *table, uint64_t **keys, uint64_t **values, size
     return status;
 }
 
-/* Without the lock. */
 static slotmap_status clone_side(Table *side, Table *copy)
 {
     slotmap_status status = slotmap_side_clone(&side->in.side, &copy->in.side);
@@ -377,6 +487,7 @@ slotmap_status table_clone(Table *table, Table *copy)
     uint64_t key = SLOTMAP_START, value = 0;
     copy->is_side = table->is_side;
     LOCKED(table)
+    copy->vacant = table->vacant;
     status = table->is_side ? clone_side(table, copy) : slotmap_clone(&table->in.map, &copy->in.map);
     while (status == SLOTMAP_OK && next_of(copy, key, &key, &value) == SLOTMAP_OK)
         Py_INCREF(table_object(value));

@@ -34,6 +34,8 @@ typedef struct {
     size_t room;
     /* Count the changes of the set of keys, and those of values. */
     uint64_t changes, writes;
+    /* No key has an index up to this. So a loop that removes the first key until there is none passes each vacant slot once. */
+    uint32_t vacant;
     /* Keys that iterators returned, with their objects, at the indices below `known_room`, which is at most KNOWN. They save an iteration
      * over a small map the making of its numbers. Each is compared with the key before it is used, so one of a removed key is no fault. */
     Known *known;
@@ -41,12 +43,12 @@ typedef struct {
 } Table;
 
 /* What an iterator has read ahead of a table: `count` pairs, of which those before `at` were handed out. The keys are live as long as
- * the table has `changes`, and the values are theirs as long as it has `writes` too. */
+ * the table has `changes`, and the values are theirs as long as it has `writes` too. One that goes backwards has all pairs, in `all`. */
 enum { AHEAD = 64 };
 typedef struct {
     uint64_t last, changes, writes;
     size_t at, count;
-    uint64_t keys[AHEAD], values[AHEAD];
+    uint64_t *keys, *values, *all, few[2 * AHEAD];
 } Ahead;
 
 /* Beside those of slotmap.h: the keys changed since `changes`. */
@@ -69,8 +71,19 @@ slotmap_status table_insert(Table *map, PyObject *value, uint64_t *key);
 slotmap_status table_set(Table *map, uint64_t key, PyObject *value, PyObject **old);
 slotmap_status table_detach(Table *map, uint64_t key, PyObject **value);
 slotmap_status table_reattach(Table *map, uint64_t key, PyObject *value);
-/* Writes the key that made way, or 0, and the reference to its value. */
-slotmap_status table_put(Table *side, uint64_t key, PyObject *value, uint64_t *older, PyObject **old);
+/* Writes the reference to the value that made way, or null. */
+slotmap_status table_put(Table *side, uint64_t key, PyObject *value, PyObject **old);
+/* Returns the key at the index of another, or 0. */
+uint64_t table_at(Table *side, uint64_t key);
+/* The same as table_put, if `older` stands at the key's index, or none if it is 0. Else it returns TABLE_CHANGED and changes nothing. */
+slotmap_status table_exchange(Table *side, uint64_t key, PyObject *value, uint64_t older, PyObject **old);
+/* Writes a new reference to the key's value, which is put before if it has none, and what made way. */
+slotmap_status table_put_default(Table *side, uint64_t key, PyObject *value, PyObject **found, PyObject **old);
+/* Writes the first key. */
+slotmap_status table_first(Table *table, uint64_t *key);
+/* Begins an iteration, also backwards. */
+void table_begin(Table *table, Ahead *ahead);
+slotmap_status table_begin_last(Table *table, Ahead *ahead);
 /* Writes the next key, and a new reference to its value, unless `value` is null: what was read ahead, if the table is as it was then,
  * and otherwise what the table has. */
 slotmap_status table_look(Table *table, Ahead *ahead, uint64_t *key, PyObject **value);
@@ -82,7 +95,7 @@ PyObject *table_make_key(Table *table, uint64_t key);
 static inline PyObject *table_key(Table *table, uint64_t key);
 /* Removes the keys after another, as far as the arrays go, and writes them and the references that the table had. */
 size_t table_drain(Table *table, uint64_t after, uint64_t *keys, uint64_t *values, size_t most);
-/* Writes all keys with new references into two new arrays, which the caller frees. */
+/* Writes all keys with new references into two arrays of one new block, `keys`, which the caller frees. */
 slotmap_status table_list(Table *table, uint64_t **keys, uint64_t **values, size_t *count);
 /* Opens `copy`, which is closed, with the same keys and values. */
 slotmap_status table_clone(Table *table, Table *copy);
