@@ -2,17 +2,9 @@
 #![tactic(auto, using(slotmap_core::proofs::ForCallers::Callers::keys))]
 
 pub mod access;
-pub mod clear;
 pub mod clones;
-pub mod detach;
-pub mod disjoint;
 pub mod drain;
-pub mod insert;
 pub mod iter;
 pub mod lends;
 pub mod lists;
-pub mod owned;
-pub mod remove;
-pub mod retain;
-pub mod room;
-pub mod slices;
+pub mod order;

@@ -2,14 +2,8 @@
 #![tactic(auto, using(slotmap_core::proofs::ForCallers::Callers::keys))]
 
 pub mod access;
-pub mod clear;
+pub mod blocks;
 pub mod clones;
-pub mod disjoint;
 pub mod drain;
-pub mod insert;
 pub mod iter;
 pub mod lists;
-pub mod owned;
-pub mod remove;
-pub mod retain;
-pub mod room;

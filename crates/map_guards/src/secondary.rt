@@ -2,14 +2,10 @@
 #![tactic(auto, using(slotmap_core::proofs::ForCallers::SecondaryCallers::secondary))]
 
 pub mod access;
-pub mod clear;
 pub mod clones;
 pub mod drain;
 pub mod entries;
 pub mod extend;
-pub mod insert;
 pub mod iter;
 pub mod lists;
-pub mod remove;
-pub mod retain;
 pub mod room;

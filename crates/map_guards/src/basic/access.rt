@@ -1,19 +1,11 @@
 //! Look-ups and writes.
 
 ghost use Rattle.std.specs.FinMap as map;
-ghost use Rattle.std.specs.Prelude.{◌≡◌, ◌↔◌, Some, None, IfOk, IfErr, OnOk, IsOk, IsTrue};
-ghost use Rattle.slotmap_core.specs.Words.{IsLive};
+ghost use Rattle.std.specs.Prelude.{◌≡◌, ◌↔◌, Some, None, IfOk, OnOk, IsOk, map as list_map};
+ghost use Rattle.slotmap_core.specs.Words.{IsLive, CanReplace, with_values};
 
 use slotmap_basic::SlotMap;
 use slotmap_core::keys::Key;
-
-/// It is true of the live keys alone.
-/// Refuses `contains_key_answers_whether_any_is_live`: `value` of `contains_key`.
-pub fn contains_key_tells_live_keys<K: Key, V: Drop>(store: &SlotMap<K, V>, key: K) -> bool
-    ensures { IsTrue result ↔ IsLive store.now (K.data_of key) }
-{
-    store.contains_key(key)
-}
 
 /// A live key's value is read.
 /// Refuses `index_reads_another_key`: `can_index` and `index_gives`.
@@ -36,40 +28,40 @@ pub fn get_mut_lends_the_value<K: Key, V: Drop>(store: &mut SlotMap<K, V>, key: 
     }
 }
 
-/// What is written under a live key is found, and changes nothing else.
-/// Holds by the premise and `writes_back` of `get_unchecked_mut`.
-pub fn get_unchecked_mut_lends_the_value<K: Key, V: Drop>(
+/// What is written under a live key is found, and changes nothing else; also with no look-up.
+/// Holds by the premises, and `writes_back` of `index_mut` and `writes_back` of
+/// `get_unchecked_mut`.
+pub fn lent_place_is_that_of_the_key<K: Key, V: Drop>(
     store: &mut SlotMap<K, V>,
     key: K,
     value: V,
+    checked: bool,
 )
     requires { IsLive store.old (K.data_of key) }
     ensures written { store.new.live ≡ map.insert store.old.live (K.data_of key) value }
     ensures rest { store.new.next ≡ store.old.next }
 {
-    *store.get_unchecked_mut(key) = value;
+    if checked {
+        store[key] = value;
+    } else {
+        *store.get_unchecked_mut(key) = value;
+    }
 }
 
-/// What is written under a live key is found, and changes nothing else.
-/// Holds by the premise and `writes_back` of `index_mut`.
-pub fn index_mut_lends_the_value<K: Key, V: Drop>(store: &mut SlotMap<K, V>, key: K, value: V)
-    requires { IsLive store.old (K.data_of key) }
-    ensures written { store.new.live ≡ map.insert store.old.live (K.data_of key) value }
-    ensures rest { store.new.next ≡ store.old.next }
+/// Guards of `replace_disjoint`.
+pub fn replace_disjoint<K: Key, V: Drop, const N: usize>(
+    store: &mut SlotMap<K, V>,
+    keys: [K; N],
+    values: [V; N],
+) -> Result<[V; N], [V; N]>
+    // It succeeds exactly where each key is live and no two are equal.
+    // Refuses `replace_disjoint_takes_equal_keys`: `which` of `replace_disjoint`.
+    ensures replace_disjoint_takes_live_keys_that_differ { IsOk result ↔ CanReplace store.old (list_map K.data_of keys) }
+    // The values that the keys had are returned, in their order. Each key has the value at its
+    // position, and nothing else changes.
+    // Holds by `value` and `ok` of `replace_disjoint`.
+    ensures replace_disjoint_exchanges_each_value_old { IfOk result (λ before. list_map (map.get store.old.live) (list_map K.data_of keys) ≡ list_map Some before) }
+    ensures replace_disjoint_exchanges_each_value_new { OnOk result (store.new ≡ with_values store.old (list_map K.data_of keys) values) }
 {
-    store[key] = value;
-}
-
-/// Guards of `replace`.
-pub fn replace<K: Key, V: Drop>(store: &mut SlotMap<K, V>, key: K, value: V) -> Result<V, V>
-    // A live key has the new value, and its old one is returned. Every other key has its own.
-    // Refuses `replace_hands_the_new_value_back_as_the_old`: `ok`, `replaces` and `err` of `replace`.
-    ensures replace_exchanges_the_value_succeeds { IsLive store.old (K.data_of key) → IsOk result }
-    ensures replace_exchanges_the_value_old { IsLive store.old (K.data_of key) → IfOk result (λ before. map.get store.old.live (K.data_of key) ≡ Some before) }
-    ensures replace_exchanges_the_value_new { IsLive store.old (K.data_of key) → OnOk result (store.new.live ≡ map.insert store.old.live (K.data_of key) value) }
-    // Where it fails, the new value comes back.
-    // Holds by `err` of `replace`.
-    ensures failed_replace_changes_nothing_back { IfErr result (λ back. back ≡ value) }
-{
-    store.replace(key, value)
+    store.replace_disjoint(keys, values)
 }

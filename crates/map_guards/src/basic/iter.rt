@@ -1,10 +1,10 @@
-//! Iterators over the keys and values.
+//! Iterators over the keys and values, and the iterator by value.
 
 ghost use Rattle.std.specs.FinMap as map;
-ghost use Rattle.std.specs.Prelude.{◌≡◌, ◌∷◌, [], Some, IfOk, IfSome, IfNone, IsOk, length};
-ghost use Rattle.slotmap_core.specs.Words.{IsKeyListing, IsValueListing};
+ghost use Rattle.std.specs.Prelude.{◌≡◌, ◌∷◌, [], Some, IfOk, IfSome, IfNone};
+ghost use Rattle.slotmap_core.specs.Words.{AreClones};
 
-use slotmap_basic::{Iter, Keys, SlotMap, Values};
+use slotmap_basic::{IntoIter, Iter, Keys, SlotMap, Values};
 use slotmap_core::keys::Key;
 use std::alloc::AllocError;
 
@@ -18,117 +18,62 @@ pub fn iter_yields_a_live_key_with_its_value<K: Key, V>(store: &SlotMap<K, V>) -
     store.iter().next()
 }
 
-/// Each live key is yielded once.
-/// Holds by `listing` of `keys`.
-pub fn keys_lists_each_key_once<K: Key, V>(store: &SlotMap<K, V>) -> Keys<'_, K, V>
-    ensures listing { IsKeyListing store.now.live result }
+/// The first item that is left is yielded, and then the others are left. After its end an iterator
+/// yields nothing.
+/// Holds by `next_gives` of `Iter`, `Keys` and `Values`.
+pub fn first_item_is_yielded<'a, K: Key, V>(
+    pairs: &mut Iter<'a, K, V>,
+    keys: &mut Keys<'a, K, V>,
+    values: &mut Values<'a, K, V>,
+) -> (Option<(K, &'a V)>, Option<K>, Option<&'a V>)
+    ensures pair { IfSome result.0 (λ item. pairs.old ≡ (K.data_of item.0, item.1.now) ∷ pairs.new) }
+    ensures no_pair { IfNone result.0 ((pairs.old ≡ []) × (pairs.new ≡ [])) }
+    ensures key { IfSome result.1 (λ item. keys.old ≡ K.data_of item ∷ keys.new) }
+    ensures no_key { IfNone result.1 ((keys.old ≡ []) × (keys.new ≡ [])) }
+    ensures value { IfSome result.2 (λ item. values.old ≡ item.now ∷ values.new) }
+    ensures no_value { IfNone result.2 ((values.old ≡ []) × (values.new ≡ [])) }
 {
-    store.keys()
+    (pairs.next(), keys.next(), values.next())
 }
 
-/// The value of each live key is yielded once.
-/// Holds by `listing` of `values`.
-pub fn values_lists_each_value_once<K: Key, V>(store: &SlotMap<K, V>) -> Values<'_, K, V>
-    ensures listing { IsValueListing store.now.live result }
+/// The first pair that is left is yielded, and then the others are left.
+/// Refuses `into_iter_gives_null_keys`, `owned_iterator_gives_another_version`: `next_gives` of
+/// `IntoIter`.
+pub fn owned_iterator_yields_its_first_pair<K: Key, V: Drop>(
+    pairs: &mut IntoIter<K, V>,
+) -> Option<(K, V)>
+    ensures some { IfSome result (λ pair. pairs.old ≡ (K.data_of pair.0, pair.1) ∷ pairs.new) }
+    ensures none { IfNone result (pairs.old ≡ []) }
 {
-    store.values()
+    pairs.next()
 }
 
-/// The first item that is left is yielded, and then the others are left. After its end
-/// it yields nothing.
-/// Holds by `next_gives` of `Iter`.
-pub fn iter_yields_its_first_pair<'a, K: Key, V>(items: &mut Iter<'a, K, V>) -> Option<(K, &'a V)>
-    ensures some { IfSome result (λ item. items.old ≡ (K.data_of item.0, item.1.now) ∷ items.new) }
-    ensures none { IfNone result (items.old ≡ []) }
-    ensures stays_at_end { IfNone result (items.new ≡ []) }
+/// A map by value yields each live key once with its value, by ascending index.
+/// Holds by `into_iter_gives`.
+pub fn owned_iterator_lists_each_pair_by_index<K: Key, V: Drop>(
+    store: SlotMap<K, V>,
+) -> IntoIter<K, V>
+    ensures { result ≡ map.entries store.live }
 {
-    items.next()
+    store.into_iter()
 }
 
-/// It is the number of items that are left.
-/// Holds by `len` of `Iter`, and `exact` of its `size_hint`.
-pub fn iter_knows_how_many_are_left<K: Key, V>(
-    items: &Iter<'_, K, V>,
-) -> (usize, (usize, Option<usize>))
-    ensures len { result.0 ≡ length items.now }
-    ensures hint { result.1 ≡ (length items.now, Some (length items.now)) }
+/// A copy yields the same keys in the same order, each with a clone of its value.
+/// Refuses `an_owned_iterator_copy_passes_a_pair_over`: `clones` of `clone`.
+pub fn copied_owned_iterator_yields_clones<K: Key, V: Clone>(
+    pairs: &IntoIter<K, V>,
+) -> Result<IntoIter<K, V>, AllocError>
+    ensures { IfOk result (AreClones V.is_clone pairs.now) }
 {
-    (items.len(), items.size_hint())
+    pairs.clone()
 }
 
-/// A copy yields the same items.
-/// Holds by `is_clone` of `Iter`.
-pub fn copied_iter_yields_the_same<'a, K: Key, V>(
-    items: &Iter<'a, K, V>,
-) -> Result<Iter<'a, K, V>, AllocError>
-    ensures same { IfOk result (λ copy. copy ≡ items.now) }
-    ensures ok { IsOk result }
+/// So does a copy by the trait `Clone`, as a derived `Clone` makes one.
+/// Refuses `derived_clone_of_an_owned_iterator_passes_a_pair_over`: `is_clone` of `IntoIter`.
+pub fn derived_copy_of_an_owned_iterator_yields_clones<K: Key, V: Clone>(
+    pairs: &IntoIter<K, V>,
+) -> Result<IntoIter<K, V>, AllocError>
+    ensures { IfOk result (AreClones V.is_clone pairs.now) }
 {
-    items.clone()
-}
-
-/// The first item that is left is yielded, and then the others are left. After its end
-/// it yields nothing.
-/// Holds by `next_gives` of `Keys`.
-pub fn keys_yields_its_first_item<'a, K: Key, V>(items: &mut Keys<'a, K, V>) -> Option<K>
-    ensures some { IfSome result (λ item. items.old ≡ K.data_of item ∷ items.new) }
-    ensures none { IfNone result (items.old ≡ []) }
-    ensures stays_at_end { IfNone result (items.new ≡ []) }
-{
-    items.next()
-}
-
-/// It is the number of items that are left.
-/// Holds by `len` of `Keys`, and `exact` of its `size_hint`.
-pub fn keys_knows_how_many_are_left<K: Key, V>(
-    items: &Keys<'_, K, V>,
-) -> (usize, (usize, Option<usize>))
-    ensures len { result.0 ≡ length items.now }
-    ensures hint { result.1 ≡ (length items.now, Some (length items.now)) }
-{
-    (items.len(), items.size_hint())
-}
-
-/// A copy yields the same items.
-/// Holds by `is_clone` of `Keys`.
-pub fn copied_keys_yields_the_same<'a, K: Key, V>(
-    items: &Keys<'a, K, V>,
-) -> Result<Keys<'a, K, V>, AllocError>
-    ensures same { IfOk result (λ copy. copy ≡ items.now) }
-    ensures ok { IsOk result }
-{
-    items.clone()
-}
-
-/// The first item that is left is yielded, and then the others are left. After its end
-/// it yields nothing.
-/// Holds by `next_gives` of `Values`.
-pub fn values_yields_its_first_item<'a, K: Key, V>(items: &mut Values<'a, K, V>) -> Option<&'a V>
-    ensures some { IfSome result (λ item. items.old ≡ item.now ∷ items.new) }
-    ensures none { IfNone result (items.old ≡ []) }
-    ensures stays_at_end { IfNone result (items.new ≡ []) }
-{
-    items.next()
-}
-
-/// It is the number of items that are left.
-/// Holds by `len` of `Values`, and `exact` of its `size_hint`.
-pub fn values_knows_how_many_are_left<K: Key, V>(
-    items: &Values<'_, K, V>,
-) -> (usize, (usize, Option<usize>))
-    ensures len { result.0 ≡ length items.now }
-    ensures hint { result.1 ≡ (length items.now, Some (length items.now)) }
-{
-    (items.len(), items.size_hint())
-}
-
-/// A copy yields the same items.
-/// Holds by `is_clone` of `Values`.
-pub fn copied_values_yields_the_same<'a, K: Key, V>(
-    items: &Values<'a, K, V>,
-) -> Result<Values<'a, K, V>, AllocError>
-    ensures same { IfOk result (λ copy. copy ≡ items.now) }
-    ensures ok { IsOk result }
-{
-    items.clone()
+    Clone::clone(pairs)
 }

@@ -21,8 +21,8 @@ pub fn next_after<K: Key, V: Drop>(store: &SlotMap<K, V>, key: K) -> Option<(K, 
     ensures next_after_goes_on_behind_the_key { IfSome result (λ found. (K.data_of key).index < (K.data_of found.0).index) }
     // No live key stands between the two.
     // Refuses `next_after_passes_a_key_over`, `next_after_passes_a_near_slot_over`,
-    // `next_after_searches_on_past_the_first_key`, `next_after_searches_past_the_near_slots`: `first`
-    // of `next_after`.
+    // `next_after_searches_on_past_the_first_key`, `next_after_searches_past_the_near_slots`:
+    // `first` of `next_after`.
     ensures next_after_passes_no_live_key_over { (other : KeyOf) → IsLive store.now other →
         (K.data_of key).index < other.index → IfSome result (λ found. (K.data_of found.0).index ≤ other.index) }
     // It returns `None` only where no live key comes after the key.

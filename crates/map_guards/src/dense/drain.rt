@@ -9,18 +9,10 @@ ghost use Rattle.slotmap_dense.specs.Drain.{DenseDrainSteps, DrainsFromBack, den
 use slotmap_core::keys::Key;
 use slotmap_dense::{DenseSlotMap, Drain};
 
-/// A drain that is dropped before it yields anything removes every key.
-/// Refuses `drain_leaves_the_rest`: `ends` of its drop, and `map` and `same_reference` of `drain`.
-pub fn dropped_drain_leaves_no_key<K: Key, V: Drop>(store: &mut DenseSlotMap<K, V>)
-    ensures { store.new.content.live ≡ map.empty }
-{
-    store.drain();
-}
-
 /// It yields a live key with its value, and nothing only where no key is live. One that is dropped
 /// early removes every key. Detached keys, slots and capacity stay.
-/// Refuses `drain_answers_another_key`: `next_gives`, `ends` of its drop, and `map` and
-/// `same_reference` of `drain`.
+/// Refuses `drain_leaves_the_rest`, `drain_answers_another_key`: `next_gives`, `ends` of its drop,
+/// and `map` and `same_reference` of `drain`.
 pub fn early_dropped_drain_leaves_no_key<K: Key, V: Drop>(
     store: &mut DenseSlotMap<K, V>,
 ) -> Option<(K, V)>

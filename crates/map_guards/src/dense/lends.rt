@@ -1,4 +1,4 @@
-//! Iterators that yield mutable references.
+//! Iterators that yield mutable references, and mutable slices.
 
 ghost use Rattle.std.specs.FinMap as map;
 ghost use Rattle.std.specs.Prelude.{◌≡◌, ◌↔◌, ◌∷◌, [], Some, IfSome, IfNone, IsSome, List, length, zip, map as list_map};
@@ -72,24 +72,6 @@ pub fn values_mut_lends_each_value<K: Key, V: Drop>(store: &mut DenseSlotMap<K, 
     store.values_mut().len()
 }
 
-/// Once the lent values are given back, the keys stand where they stood, and no slot has changed.
-/// Holds by `writes_back` of `iter_mut`.
-pub fn iter_mut_keeps_keys_and_slots<K: Key, V: Drop>(store: &mut DenseSlotMap<K, V>)
-    ensures keys { store.new.keys ≡ store.old.keys }
-    ensures slots { store.new.content.next ≡ store.old.content.next }
-{
-    store.iter_mut();
-}
-
-/// So it is with the values alone.
-/// Holds by `writes_back` of `values_mut`.
-pub fn values_mut_keeps_keys_and_slots<K: Key, V: Drop>(store: &mut DenseSlotMap<K, V>)
-    ensures keys { store.new.keys ≡ store.old.keys }
-    ensures slots { store.new.content.next ≡ store.old.content.next }
-{
-    store.values_mut();
-}
-
 /// It lends the values one after the other, in packed order.
 /// Holds by `runs` of `values_mut`.
 pub fn values_mut_runs_in_order<K: Key, V: Drop>(
@@ -98,4 +80,32 @@ pub fn values_mut_runs_in_order<K: Key, V: Drop>(
     ensures { YieldsMutRefsInOrder (values_mut_steps {K = K} {V = V}) values_mut_rest }
 {
     store.values_mut()
+}
+
+/// Once what was lent is given back, the keys stand where they stood, and no slot has changed.
+/// Holds by `writes_back` of `iter_mut` and `writes_back` of `values_mut`.
+pub fn keys_and_slots_stay<K: Key, V: Drop>(store: &mut DenseSlotMap<K, V>, alone: bool)
+    ensures keys { store.new.keys ≡ store.old.keys }
+    ensures slots { store.new.content.next ≡ store.old.content.next }
+{
+    if alone {
+        store.values_mut();
+    } else {
+        store.iter_mut();
+    }
+}
+
+/// So it is where the values of a slice are reversed.
+/// Holds by `writes_back` and `value` of `values_as_mut_slice`, and `writes_back` and `values` of
+/// `as_mut_slices`.
+pub fn values_move_beside_the_keys<K: Key, V: Drop>(store: &mut DenseSlotMap<K, V>, alone: bool)
+    ensures keys { store.new.keys ≡ store.old.keys }
+    ensures slots { store.new.content.next ≡ store.old.content.next }
+{
+    if alone {
+        store.values_as_mut_slice().reverse();
+    } else {
+        let (_, values) = store.as_mut_slices();
+        values.reverse();
+    }
 }

@@ -1,21 +1,13 @@
-//! Iterators over the keys and values.
+//! Iterators over the keys and values, and the iterator by value.
 
 ghost use Rattle.std.specs.FinMap as map;
 ghost use Rattle.std.specs.Prelude.{◌≡◌, ◌∷◌, [], Some, IfOk, IfSome, IfNone, IsOk, length, ◌+◌, ◌*◌, ◌≤◌};
-ghost use Rattle.slotmap_core.specs.Words.{IsKeyListing, IsValueListing};
+ghost use Rattle.slotmap_core.specs.Words.{AreClones};
 ghost use Rattle.slotmap_hop.specs.Iter.{ListsRetired};
 
 use slotmap_core::keys::Key;
-use slotmap_hop::{HopSlotMap, Iter, Keys, Values};
+use slotmap_hop::{HopSlotMap, IntoIter, Iter, Keys, Values};
 use std::alloc::AllocError;
-
-/// It has each retired slot ahead of it.
-/// Holds by `retired` of `iter`.
-pub fn iter_has_retired_slots_ahead<K: Key, V>(store: &HopSlotMap<K, V>) -> Iter<'_, K, V>
-    ensures { ListsRetired store.now result.retired }
-{
-    store.iter()
-}
 
 /// The first pair is a live key with its value, and there is none only where no key is live.
 /// Holds by `next_gives`, and `in_order` of `iter`.
@@ -26,58 +18,65 @@ pub fn iter_yields_a_live_key_with_its_value<K: Key, V>(store: &HopSlotMap<K, V>
     store.iter().next()
 }
 
-/// Guards of `keys`.
-pub fn keys<K: Key, V>(store: &HopSlotMap<K, V>) -> Keys<'_, K, V>
-    // Each live key is yielded once.
-    // Holds by `listing` of `keys`.
-    ensures keys_lists_each_key_once_listing { IsKeyListing store.now.content.live result.rest }
-    // It has each retired slot ahead of it.
-    // Holds by `retired` of `keys`.
-    ensures keys_starts_with_no_read_retired { ListsRetired store.now result.retired }
+/// The first item that is left is yielded, and then the others are left. After its end an iterator
+/// yields nothing.
+/// Holds by `next_gives` of `Iter`, `Keys` and `Values`.
+pub fn first_item_is_yielded<'a, K: Key, V>(
+    pairs: &mut Iter<'a, K, V>,
+    keys: &mut Keys<'a, K, V>,
+    values: &mut Values<'a, K, V>,
+) -> (Option<(K, &'a V)>, Option<K>, Option<&'a V>)
+    ensures pair { IfSome result.0 (λ item. pairs.old.rest ≡ (K.data_of item.0, item.1.now) ∷ pairs.new.rest) }
+    ensures no_pair { IfNone result.0 ((pairs.old.rest ≡ []) × (pairs.new.rest ≡ [])) }
+    ensures key { IfSome result.1 (λ item. keys.old.rest ≡ K.data_of item ∷ keys.new.rest) }
+    ensures no_key { IfNone result.1 ((keys.old.rest ≡ []) × (keys.new.rest ≡ [])) }
+    ensures value { IfSome result.2 (λ item. values.old.rest ≡ item.now ∷ values.new.rest) }
+    ensures no_value { IfNone result.2 ((values.old.rest ≡ []) × (values.new.rest ≡ [])) }
 {
-    store.keys()
+    (pairs.next(), keys.next(), values.next())
 }
 
-/// Guards of `values`.
-pub fn values<K: Key, V>(store: &HopSlotMap<K, V>) -> Values<'_, K, V>
-    // The value of each live key is yielded once.
-    // Holds by `listing` of `values`.
-    ensures values_lists_each_value_once_listing { IsValueListing store.now.content.live result.rest }
-    // It has each retired slot ahead of it.
-    // Holds by `retired` of `values`.
-    ensures values_starts_with_no_read_retired { ListsRetired store.now result.retired }
+/// Each of them has each retired slot ahead of it.
+/// Holds by `retired` of `iter`, `retired` of `keys` and `retired` of `values`.
+pub fn retired_slots_are_ahead<K: Key, V>(
+    store: &HopSlotMap<K, V>,
+) -> (Iter<'_, K, V>, Keys<'_, K, V>, Values<'_, K, V>)
+    ensures iter { ListsRetired store.now result.0.retired }
+    ensures keys { ListsRetired store.now result.1.retired }
+    ensures values { ListsRetired store.now result.2.retired }
 {
-    store.values()
+    (store.iter(), store.keys(), store.values())
 }
 
-/// Guards of `next` of `Iter`.
-pub fn iter_next<'a, K: Key, V>(items: &mut Iter<'a, K, V>) -> Option<(K, &'a V)>
-    // The first item that is left is yielded, and then the others are left.
-    // Holds by `next_gives` of `Iter`.
-    ensures iter_yields_its_first_pair_some { IfSome result (λ item. items.old.rest ≡ (K.data_of item.0, item.1.now) ∷ items.new.rest) }
-    ensures iter_yields_its_first_pair_none { IfNone result (items.old.rest ≡ []) }
-    // After its end it yields nothing.
-    // Holds by `next_gives` of `Iter`.
-    ensures iter_stays_at_its_end { IfNone result (items.new.rest ≡ []) }
-    // A step that yields an item reads at least one slot, and at most two and two more for each
-    // retired slot that it passes. At the end it reads none.
-    // Refuses `next_live_steps_over_each_vacant_slot`: `next_gives` of `Iter`.
-    ensures iter_reads_few_slots_some { IfSome result (λ _. items.old.reads + 1 ≤ items.new.reads) }
-    ensures iter_reads_few_slots_none { IfNone result (items.new ≡ items.old) }
-    ensures iter_reads_few_slots_few { items.new.reads + 2 * length items.new.retired ≤ items.old.reads + 2 * length items.old.retired + 2 }
+/// The first item that is left is yielded, and then the others are left.
+/// Holds by `next_gives` of `Iter`.
+/// After its end it yields nothing.
+/// Holds by `next_gives` of `Iter`.
+/// A step that yields an item reads at least one slot, and at most two and two more for each
+/// retired slot that it passes. At the end it reads none.
+/// Refuses `next_live_steps_over_each_vacant_slot`: `next_gives` of `Iter`.
+pub fn iter_reads_few_slots<'a, K: Key, V>(items: &mut Iter<'a, K, V>) -> Option<(K, &'a V)>
+    ensures some { IfSome result (λ _. items.old.reads + 1 ≤ items.new.reads) }
+    ensures none { IfNone result (items.new ≡ items.old) }
+    ensures few { items.new.reads + 2 * length items.new.retired ≤ items.old.reads + 2 * length items.old.retired + 2 }
 {
     items.next()
 }
 
-/// It is the number of items that are left.
-/// Holds by `len` of `Iter`, and `exact` of its `size_hint`.
-pub fn iter_knows_how_many_are_left<K: Key, V>(
-    items: &Iter<'_, K, V>,
-) -> (usize, (usize, Option<usize>))
-    ensures len { result.0 ≡ length items.now.rest }
-    ensures hint { result.1 ≡ (length items.now.rest, Some (length items.now.rest)) }
+/// So it is with the keys alone and with the values alone.
+/// Holds by `next_gives` of `Keys` and `Values`.
+pub fn keys_and_values_read_few_slots<'a, K: Key, V>(
+    keys: &mut Keys<'a, K, V>,
+    values: &mut Values<'a, K, V>,
+) -> (Option<K>, Option<&'a V>)
+    ensures key { IfSome result.0 (λ _. keys.old.reads + 1 ≤ keys.new.reads) }
+    ensures no_key { IfNone result.0 (keys.new ≡ keys.old) }
+    ensures few_for_keys { keys.new.reads + 2 * length keys.new.retired ≤ keys.old.reads + 2 * length keys.old.retired + 2 }
+    ensures value { IfSome result.1 (λ _. values.old.reads + 1 ≤ values.new.reads) }
+    ensures no_value { IfNone result.1 (values.new ≡ values.old) }
+    ensures few_for_values { values.new.reads + 2 * length values.new.retired ≤ values.old.reads + 2 * length values.old.retired + 2 }
 {
-    (items.len(), items.size_hint())
+    (keys.next(), values.next())
 }
 
 /// A copy yields the same items.
@@ -91,84 +90,43 @@ pub fn copied_iter_yields_the_same<'a, K: Key, V>(
     items.clone()
 }
 
-/// Guards of `next` of `Keys`.
-pub fn keys_next<'a, K: Key, V>(items: &mut Keys<'a, K, V>) -> Option<K>
-    // The first item that is left is yielded, and then the others are left.
-    // Holds by `next_gives` of `Keys`.
-    ensures keys_yields_its_first_item_some { IfSome result (λ item. items.old.rest ≡ K.data_of item ∷ items.new.rest) }
-    ensures keys_yields_its_first_item_none { IfNone result (items.old.rest ≡ []) }
-    // After its end it yields nothing.
-    // Holds by `next_gives` of `Keys`.
-    ensures keys_stays_at_its_end { IfNone result (items.new.rest ≡ []) }
-    // A step that yields an item reads at least one slot, and at most two and two more for each
-    // retired slot that it passes. At the end it reads none.
-    // Holds by `next_gives` of `Keys`.
-    ensures keys_reads_few_slots_some { IfSome result (λ _. items.old.reads + 1 ≤ items.new.reads) }
-    ensures keys_reads_few_slots_none { IfNone result (items.new ≡ items.old) }
-    ensures keys_reads_few_slots_few { items.new.reads + 2 * length items.new.retired ≤ items.old.reads + 2 * length items.old.retired + 2 }
+/// The first pair that is left is yielded, and then the others are left.
+/// Refuses `owned_iterator_keeps_its_place`: `next_gives` of `IntoIter`.
+pub fn owned_iterator_yields_its_first_pair<K: Key, V: Drop>(
+    pairs: &mut IntoIter<K, V>,
+) -> Option<(K, V)>
+    ensures some { IfSome result (λ pair. pairs.old ≡ (K.data_of pair.0, pair.1) ∷ pairs.new) }
+    ensures none { IfNone result (pairs.old ≡ []) }
 {
-    items.next()
+    pairs.next()
 }
 
-/// It is the number of items that are left.
-/// Holds by `len` of `Keys`, and `exact` of its `size_hint`.
-pub fn keys_knows_how_many_are_left<K: Key, V>(
-    items: &Keys<'_, K, V>,
-) -> (usize, (usize, Option<usize>))
-    ensures len { result.0 ≡ length items.now.rest }
-    ensures hint { result.1 ≡ (length items.now.rest, Some (length items.now.rest)) }
+/// A map by value yields each live key once with its value, by ascending index.
+/// Holds by `into_iter_gives`.
+pub fn owned_iterator_lists_each_pair_by_index<K: Key, V: Drop>(
+    store: HopSlotMap<K, V>,
+) -> IntoIter<K, V>
+    ensures { result ≡ map.entries store.content.live }
 {
-    (items.len(), items.size_hint())
+    store.into_iter()
 }
 
-/// A copy yields the same items.
-/// Holds by `is_clone` of `Keys`.
-pub fn copied_keys_yields_the_same<'a, K: Key, V>(
-    items: &Keys<'a, K, V>,
-) -> Result<Keys<'a, K, V>, AllocError>
-    ensures same { IfOk result (λ copy. copy ≡ items.now) }
-    ensures ok { IsOk result }
+/// A copy yields the same keys in the same order, each with a clone of its value.
+/// Refuses `a_cloned_owned_iterator_starts_anew`: `clones` of `clone`.
+pub fn copied_owned_iterator_yields_clones<K: Key, V: Clone>(
+    pairs: &IntoIter<K, V>,
+) -> Result<IntoIter<K, V>, AllocError>
+    ensures { IfOk result (AreClones V.is_clone pairs.now) }
 {
-    items.clone()
+    pairs.clone()
 }
 
-/// Guards of `next` of `Values`.
-pub fn values_next<'a, K: Key, V>(items: &mut Values<'a, K, V>) -> Option<&'a V>
-    // The first item that is left is yielded, and then the others are left.
-    // Holds by `next_gives` of `Values`.
-    ensures values_yields_its_first_item_some { IfSome result (λ item. items.old.rest ≡ item.now ∷ items.new.rest) }
-    ensures values_yields_its_first_item_none { IfNone result (items.old.rest ≡ []) }
-    // After its end it yields nothing.
-    // Holds by `next_gives` of `Values`.
-    ensures values_stays_at_its_end { IfNone result (items.new.rest ≡ []) }
-    // A step that yields an item reads at least one slot, and at most two and two more for each
-    // retired slot that it passes. At the end it reads none.
-    // Holds by `next_gives` of `Values`.
-    ensures values_reads_few_slots_some { IfSome result (λ _. items.old.reads + 1 ≤ items.new.reads) }
-    ensures values_reads_few_slots_none { IfNone result (items.new ≡ items.old) }
-    ensures values_reads_few_slots_few { items.new.reads + 2 * length items.new.retired ≤ items.old.reads + 2 * length items.old.retired + 2 }
+/// So does a copy by the trait `Clone`, as a derived `Clone` makes one.
+/// Refuses `derived_clone_of_an_owned_iterator_starts_anew`: `is_clone` of `IntoIter`.
+pub fn derived_copy_of_an_owned_iterator_yields_clones<K: Key, V: Clone>(
+    pairs: &IntoIter<K, V>,
+) -> Result<IntoIter<K, V>, AllocError>
+    ensures { IfOk result (AreClones V.is_clone pairs.now) }
 {
-    items.next()
-}
-
-/// It is the number of items that are left.
-/// Holds by `len` of `Values`, and `exact` of its `size_hint`.
-pub fn values_knows_how_many_are_left<K: Key, V>(
-    items: &Values<'_, K, V>,
-) -> (usize, (usize, Option<usize>))
-    ensures len { result.0 ≡ length items.now.rest }
-    ensures hint { result.1 ≡ (length items.now.rest, Some (length items.now.rest)) }
-{
-    (items.len(), items.size_hint())
-}
-
-/// A copy yields the same items.
-/// Holds by `is_clone` of `Values`.
-pub fn copied_values_yields_the_same<'a, K: Key, V>(
-    items: &Values<'a, K, V>,
-) -> Result<Values<'a, K, V>, AllocError>
-    ensures same { IfOk result (λ copy. copy ≡ items.now) }
-    ensures ok { IsOk result }
-{
-    items.clone()
+    Clone::clone(pairs)
 }

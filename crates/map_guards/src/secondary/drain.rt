@@ -8,32 +8,23 @@ ghost use Rattle.slotmap_secondary.specs.Drain.{EmptiesSide, SideDrainSteps, sid
 use slotmap_core::keys::Key;
 use slotmap_secondary::{Drain, SecondaryMap};
 
-/// A drain that is dropped before it yields anything removes every key.
-/// Refuses `drain_leaves_a_pair`: `ends` of its drop, and `map` and
-/// `same_reference` of `drain`.
-pub fn dropped_drain_leaves_no_key<K: Key, V: Drop>(table: &mut SecondaryMap<K, V>)
-    ensures { table.new.pairs ≡ map.empty }
-{
-    table.drain();
-}
-
 /// It yields a key with its value, and nothing only where the map is empty. One that is dropped
 /// early removes every key. Slots and capacity stay.
-/// Refuses `drain_begins_with_the_last_pair`: `next_gives`, `ends` of its drop, and `map`,
-/// `same_reference` and `ready` of `drain`.
+/// Refuses `drain_leaves_a_pair`, `drain_begins_with_the_last_pair`: `next_gives`, `ends` of its
+/// drop, and `map`, `same_reference` and `ready` of `drain`.
 pub fn early_dropped_drain_leaves_no_key<K: Key, V: Drop>(
-    table: &mut SecondaryMap<K, V>,
+    store: &mut SecondaryMap<K, V>,
 ) -> Option<(K, V)>
-    ensures some { IfSome result (λ pair. get table.old.pairs (K.data_of pair.0) ≡ Some pair.1) }
-    ensures none { IfNone result (table.old.pairs ≡ map.empty) }
-    ensures empty { table.new.pairs ≡ map.empty }
-    ensures rest { (table.new.places ≡ table.old.places) × (table.new.capacity ≡ table.old.capacity) }
+    ensures some { IfSome result (λ pair. get store.old.pairs (K.data_of pair.0) ≡ Some pair.1) }
+    ensures none { IfNone result (store.old.pairs ≡ map.empty) }
+    ensures empty { store.new.pairs ≡ map.empty }
+    ensures rest { (store.new.places ≡ store.old.places) × (store.new.capacity ≡ store.old.capacity) }
 {
-    table.drain().next()
+    store.drain().next()
 }
 
 /// Guards of `drain`, for callers that take several pairs.
-pub fn drain_along<K: Key, V: Drop>(table: &mut SecondaryMap<K, V>) -> Drain<'_, K, V>
+pub fn drain_along<K: Key, V: Drop>(store: &mut SecondaryMap<K, V>) -> Drain<'_, K, V>
     // The same map is lent after each step, and is emptied alike.
     // Holds by `stays` of `drain`.
     ensures drain_keeps_its_map { KeepsAlong (SideDrainSteps K.data_of) (KeepsLoan side_drain_loan EmptiesSide) result }
@@ -44,5 +35,5 @@ pub fn drain_along<K: Key, V: Drop>(table: &mut SecondaryMap<K, V>) -> Drain<'_,
     // Holds by `in_order` of `drain`.
     ensures drain_yields_by_index { InOrderAlong K.data_of (λ d. keyed (side_drain_loan d).now.pairs) (SideDrainSteps K.data_of) result }
 {
-    table.drain()
+    store.drain()
 }

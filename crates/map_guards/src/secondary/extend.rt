@@ -1,8 +1,8 @@
 //! Many pairs at once.
 
 ghost use Rattle.std.specs.FinMap as map;
-ghost use Rattle.std.specs.Prelude.{◌≡◌, ◌+◌, ◌-◌, ◌≤◌, ◌⊎◌, IfOk, IfErr, IfSome, List, Some, true};
 ghost use Rattle.std.specs.Iterator.{Drains, IsFinite, YieldsThen};
+ghost use Rattle.std.specs.Prelude.{◌≡◌, ◌+◌, ◌-◌, ◌≤◌, ◌⊎◌, IfOk, IfErr, IfSome, List, Some, true};
 ghost use Rattle.slotmap_core.specs.Words.{AllPut, ExtendsBy};
 ghost use Rattle.slotmap_secondary.specs.Extend.{EndsAtPair, LacksPlace};
 
@@ -12,32 +12,32 @@ use std::alloc::Global;
 
 /// Guards of `extend`.
 pub fn extend<K: Key, V: Drop, I: IntoIterator<Item = (K, V)>>(
-    table: &mut SecondaryMap<K, V>,
+    store: &mut SecondaryMap<K, V>,
     iter: I,
 ) -> Result<(), (K, V)>
     requires { (it : I.IntoIter) → I.into_iter_gives iter it → I.IntoIter.can_next it × IsFinite (I.IntoIter.remaining it) }
     // The last slot that was made holds a pair, and no memory is asked for where there is some.
     // Refuses `extend_makes_2000_slots`: `grows` of `extend`.
-    ensures extend_gives_up_beyond_the_memory_alone_slots { (table.new.places ≡ table.old.places) ⊎ (map.contains_key table.new.pairs (table.new.places - 1) ≡ true) }
-    ensures extend_gives_up_beyond_the_memory_alone_capacity { table.new.places ≤ table.old.capacity + 1 → table.new.capacity ≡ table.old.capacity }
+    ensures extend_gives_up_beyond_the_memory_alone_slots { (store.new.places ≡ store.old.places) ⊎ (map.contains_key store.new.pairs (store.new.places - 1) ≡ true) }
+    ensures extend_gives_up_beyond_the_memory_alone_capacity { store.new.places ≤ store.old.capacity + 1 → store.new.capacity ≡ store.old.capacity }
 {
-    table.extend(iter)
+    store.extend(iter)
 }
 
 /// Guards of `extend_refs`.
 pub fn extend_refs<'b, K: Key, V: Copy + Drop + 'b, I: IntoIterator<Item = (K, &'b V)>>(
-    table: &mut SecondaryMap<K, V>,
+    store: &mut SecondaryMap<K, V>,
     iter: I,
 ) -> Result<(), (K, V)>
     requires { (it : I.IntoIter) → I.into_iter_gives iter it → I.IntoIter.can_next it × IsFinite (I.IntoIter.remaining it) }
     // Each pair that an iterator over references yields is put, one after the other.
     // Holds by the premise and `extends` of `extend_refs`.
-    ensures extend_refs_puts_each_pair { (it : I.IntoIter) × I.into_iter_gives iter it × ExtendsBy K.data_of it table.old.pairs result table.new.pairs I.IntoIter.next_gives }
+    ensures extend_refs_puts_each_pair { (it : I.IntoIter) × I.into_iter_gives iter it × ExtendsBy K.data_of it store.old.pairs result store.new.pairs I.IntoIter.next_gives }
     // No memory is asked for where there is some.
     // Holds by `grows` of `extend_refs`.
-    ensures extend_refs_gives_up_beyond_the_memory_alone_capacity { table.new.places ≤ table.old.capacity + 1 → table.new.capacity ≡ table.old.capacity }
+    ensures extend_refs_gives_up_beyond_the_memory_alone_capacity { store.new.places ≤ store.old.capacity + 1 → store.new.capacity ≡ store.old.capacity }
 {
-    table.extend_refs(iter)
+    store.extend_refs(iter)
 }
 
 /// Guards of `from_iter`.

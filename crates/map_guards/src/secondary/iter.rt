@@ -1,135 +1,42 @@
-//! Iterators over the keys and values.
+//! Iterators over the keys and values, and the iterator by value.
 
 ghost use Rattle.std.specs.FinMap as map;
-ghost use Rattle.std.specs.Prelude.{◌≡◌, ◌∷◌, [], Some, IfOk, IfSome, IfNone, IsOk, length};
-ghost use Rattle.slotmap_core.specs.Words.{IsListing, IsValueListing, keyed};
+ghost use Rattle.std.specs.Prelude.{◌≡◌, ◌∷◌, [], IfSome, IfNone};
+ghost use Rattle.slotmap_core.specs.Words.{IsListing, keyed};
 
 use slotmap_core::keys::Key;
 use slotmap_secondary::{IntoIter, Iter, Keys, SecondaryMap, Values};
-use std::alloc::AllocError;
 
-/// Each key is yielded once with its value, by ascending index.
-/// Refuses `iter_numbers_from_1`: `in_order` of `iter`.
-pub fn iter_lists_each_once<K: Key, V>(table: &SecondaryMap<K, V>) -> Iter<'_, K, V>
-    ensures order { result ≡ map.entries (keyed table.now.pairs) }
+/// Each key is yielded once with its value, by ascending index, and so are the keys and the values
+/// alone.
+/// Refuses `iter_numbers_from_1`: `in_order` of `iter`, `in_order` of `keys` and `in_order` of
+/// `values`.
+pub fn iterators_list_each_once<K: Key, V>(
+    store: &SecondaryMap<K, V>,
+) -> (Iter<'_, K, V>, Keys<'_, K, V>, Values<'_, K, V>)
+    ensures pairs { result.0 ≡ map.entries (keyed store.now.pairs) }
+    ensures keys { result.1 ≡ map.keys (keyed store.now.pairs) }
+    ensures values { result.2 ≡ map.values (keyed store.now.pairs) }
 {
-    table.iter()
+    (store.iter(), store.keys(), store.values())
 }
 
-/// The first item that is left is yielded, and then the others are left. After its end
-/// it yields nothing.
-/// Holds by `next_gives` of `Iter`.
-pub fn iter_yields_its_first_item<'a, K: Key, V>(items: &mut Iter<'a, K, V>) -> Option<(K, &'a V)>
-    ensures some { IfSome result (λ item. items.old ≡ (K.data_of item.0, item.1.now) ∷ items.new) }
-    ensures none { IfNone result (items.old ≡ []) }
-    ensures stays_at_end { IfNone result (items.new ≡ []) }
+/// The first item that is left is yielded, and then the others are left. After its end an iterator
+/// yields nothing.
+/// Holds by `next_gives` of `Iter`, `Keys` and `Values`.
+pub fn first_item_is_yielded<'a, K: Key, V>(
+    pairs: &mut Iter<'a, K, V>,
+    keys: &mut Keys<'a, K, V>,
+    values: &mut Values<'a, K, V>,
+) -> (Option<(K, &'a V)>, Option<K>, Option<&'a V>)
+    ensures pair { IfSome result.0 (λ item. pairs.old ≡ (K.data_of item.0, item.1.now) ∷ pairs.new) }
+    ensures no_pair { IfNone result.0 ((pairs.old ≡ []) × (pairs.new ≡ [])) }
+    ensures key { IfSome result.1 (λ item. keys.old ≡ K.data_of item ∷ keys.new) }
+    ensures no_key { IfNone result.1 ((keys.old ≡ []) × (keys.new ≡ [])) }
+    ensures value { IfSome result.2 (λ item. values.old ≡ item.now ∷ values.new) }
+    ensures no_value { IfNone result.2 ((values.old ≡ []) × (values.new ≡ [])) }
 {
-    items.next()
-}
-
-/// It is the number of items that are left.
-/// Holds by `len` of `Iter`, and `exact` of its `size_hint`.
-pub fn iter_knows_how_many_are_left<K: Key, V>(
-    items: &Iter<'_, K, V>,
-) -> (usize, (usize, Option<usize>))
-    ensures len { result.0 ≡ length items.now }
-    ensures hint { result.1 ≡ (length items.now, Some (length items.now)) }
-{
-    (items.len(), items.size_hint())
-}
-
-/// A copy yields the same items.
-/// Holds by `is_clone` of `Iter`.
-pub fn copied_iter_yields_the_same<'a, K: Key, V>(
-    items: &Iter<'a, K, V>,
-) -> Result<Iter<'a, K, V>, AllocError>
-    ensures same { IfOk result (λ copy. copy ≡ items.now) }
-    ensures ok { IsOk result }
-{
-    items.clone()
-}
-
-/// Each key is yielded once, by ascending index.
-/// Holds by `in_order` of `keys`.
-pub fn keys_lists_each_once<K: Key, V>(table: &SecondaryMap<K, V>) -> Keys<'_, K, V>
-    ensures order { result ≡ map.keys (keyed table.now.pairs) }
-{
-    table.keys()
-}
-
-/// The first item that is left is yielded, and then the others are left. After its end
-/// it yields nothing.
-/// Holds by `next_gives` of `Keys`.
-pub fn keys_yields_its_first_item<'a, K: Key, V>(items: &mut Keys<'a, K, V>) -> Option<K>
-    ensures some { IfSome result (λ item. items.old ≡ K.data_of item ∷ items.new) }
-    ensures none { IfNone result (items.old ≡ []) }
-    ensures stays_at_end { IfNone result (items.new ≡ []) }
-{
-    items.next()
-}
-
-/// It is the number of items that are left.
-/// Holds by `len` of `Keys`, and `exact` of its `size_hint`.
-pub fn keys_knows_how_many_are_left<K: Key, V>(
-    items: &Keys<'_, K, V>,
-) -> (usize, (usize, Option<usize>))
-    ensures len { result.0 ≡ length items.now }
-    ensures hint { result.1 ≡ (length items.now, Some (length items.now)) }
-{
-    (items.len(), items.size_hint())
-}
-
-/// A copy yields the same items.
-/// Holds by `is_clone` of `Keys`.
-pub fn copied_keys_yields_the_same<'a, K: Key, V>(
-    items: &Keys<'a, K, V>,
-) -> Result<Keys<'a, K, V>, AllocError>
-    ensures same { IfOk result (λ copy. copy ≡ items.now) }
-    ensures ok { IsOk result }
-{
-    items.clone()
-}
-
-/// Each key's value is yielded once, by ascending index.
-/// Holds by `listing` and `in_order` of `values`.
-pub fn values_lists_each_once<K: Key, V>(table: &SecondaryMap<K, V>) -> Values<'_, K, V>
-    ensures listing { IsValueListing (keyed table.now.pairs) result }
-    ensures order { result ≡ map.values (keyed table.now.pairs) }
-{
-    table.values()
-}
-
-/// The first item that is left is yielded, and then the others are left. After its end
-/// it yields nothing.
-/// Holds by `next_gives` of `Values`.
-pub fn values_yields_its_first_item<'a, K: Key, V>(items: &mut Values<'a, K, V>) -> Option<&'a V>
-    ensures some { IfSome result (λ item. items.old ≡ item.now ∷ items.new) }
-    ensures none { IfNone result (items.old ≡ []) }
-    ensures stays_at_end { IfNone result (items.new ≡ []) }
-{
-    items.next()
-}
-
-/// It is the number of items that are left.
-/// Holds by `len` of `Values`, and `exact` of its `size_hint`.
-pub fn values_knows_how_many_are_left<K: Key, V>(
-    items: &Values<'_, K, V>,
-) -> (usize, (usize, Option<usize>))
-    ensures len { result.0 ≡ length items.now }
-    ensures hint { result.1 ≡ (length items.now, Some (length items.now)) }
-{
-    (items.len(), items.size_hint())
-}
-
-/// A copy yields the same items.
-/// Holds by `is_clone` of `Values`.
-pub fn copied_values_yields_the_same<'a, K: Key, V>(
-    items: &Values<'a, K, V>,
-) -> Result<Values<'a, K, V>, AllocError>
-    ensures same { IfOk result (λ copy. copy ≡ items.now) }
-    ensures ok { IsOk result }
-{
-    items.clone()
+    (pairs.next(), keys.next(), values.next())
 }
 
 /// The first pair that is left is yielded, and then the others are left.
@@ -145,8 +52,8 @@ pub fn owned_iterator_yields_its_first_pair<K: Key, V: Drop>(
 
 /// A map by value yields each key once with its value.
 /// Refuses `into_iter_starts_at_its_end`: `into_iter_gives`.
-pub fn owned_iterator_lists_each_pair<K: Key, V: Drop>(table: SecondaryMap<K, V>) -> IntoIter<K, V>
-    ensures { IsListing (keyed table.pairs) result }
+pub fn owned_iterator_lists_each_pair<K: Key, V: Drop>(store: SecondaryMap<K, V>) -> IntoIter<K, V>
+    ensures { IsListing (keyed store.pairs) result }
 {
-    table.into_iter()
+    store.into_iter()
 }

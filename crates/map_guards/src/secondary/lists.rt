@@ -1,8 +1,7 @@
 //! Lists of slots.
 
-ghost use Rattle.std.specs.FinMap as map;
 ghost use Rattle.std.specs.Prelude.{◌≡◌, IfOk, IfErr, IsOk};
-ghost use Rattle.slotmap_core.specs.Words.{Key as KeyOf, IsCloneOf, ClonesEqual, start_live, Accepts, RefusesStart, get, keyed, side_list_limit};
+ghost use Rattle.slotmap_core.specs.Words.{ClonesEqual, start_live, Accepts, RefusesStart, keyed, side_list_limit};
 ghost use Rattle.slotmap_secondary.specs.Written.{WritesSide, WritesSideClones};
 
 use slotmap_core::errors::{OutOfMemory, SlotsError};
@@ -13,24 +12,18 @@ use std::alloc::Global;
 
 /// Guards of `to_slots`.
 pub fn to_slots<K: Key, V: Clone + Drop>(
-    table: &SecondaryMap<K, V>,
+    store: &SecondaryMap<K, V>,
 ) -> Result<Vec<SlotRecord<V>>, OutOfMemory>
-    // Where clones equal their values, the list has a record for each slot, with the version and the
-    // value of its key.
+    // Where clones equal their values, the list has a record for each slot, with the version and
+    // the value of its key.
     // Refuses `to_slots_leaves_place_0_out`, `to_slots_writes_the_next_version`,
     // `to_slots_writes_the_slots_in_reverse`: `writes_if_clones_equal` of `to_slots`.
-    ensures to_slots_writes_each_slot { ClonesEqual V.is_clone → IfOk result (λ list. WritesSide table.now list.items) }
+    ensures to_slots_writes_each_slot { ClonesEqual V.is_clone → IfOk result (λ list. WritesSide store.now list.items) }
     // The list is that of a copy, which has a clone under each key.
     // Holds by `writes` of `to_slots`.
-    ensures to_slots_writes_a_copy { IfOk result (λ list. WritesSideClones V.is_clone table.now list.items) }
-    // The list has a clone of each value, under its key.
-    // Holds by `contents` of `to_slots`.
-    ensures to_slots_clones_each_value { IfOk result (λ list. (key : KeyOf) → IsCloneOf V.is_clone (get table.now.pairs key) (map.get (start_live list.items) key)) }
-    // Where clones equal their values, the list has the keys with their values.
-    // Holds by `contents_if_clones_equal` of `to_slots`.
-    ensures to_slots_keeps_the_keys { ClonesEqual V.is_clone → IfOk result (λ list. start_live list.items ≡ keyed table.now.pairs) }
+    ensures to_slots_writes_a_copy { IfOk result (λ list. WritesSideClones V.is_clone store.now list.items) }
 {
-    table.to_slots()
+    store.to_slots()
 }
 
 /// Guards of `from_slots`.
@@ -41,8 +34,8 @@ pub fn from_slots<K: Key, V: Drop>(
     // The keys are those of odd versions, each with its value.
     // Holds by `contents` of `from_slots`.
     ensures from_slots_reads_each_slot { IfOk result (λ made. keyed made.pairs ≡ start_live list.items) }
-    // A list is read only if it is short, its first version is even, and each slot has a value where
-    // its version is odd.
+    // A list is read only if it is short, its first version is even, and each slot has a value
+    // where its version is odd.
     // Refuses `from_slots_reads_odd_versions_without_a_value`: `accepted` of `from_slots`.
     ensures from_slots_reads_consistent_lists_alone { IsOk result → Accepts list.items side_list_limit }
     // The first error that applies is returned.

@@ -1,113 +1,119 @@
-//! How many keys there are, and room for more.
+//! Memory for keys.
 
 ghost use Rattle.std.specs.FinMap as map;
-ghost use Rattle.std.specs.Prelude.{◌≡◌, ◌+◌, ◌<◌, ◌≤◌, None, IfOk, OnOk, IsOk, Err};
-ghost use Rattle.slotmap_core.specs.Words.{Key as KeyOf, get};
-ghost use Rattle.slotmap_sparse.specs.Content.{most_keys};
+ghost use Rattle.std.specs.Prelude.{◌≡◌, ◌+◌, ◌<◌, ◌≤◌, None, OnOk, IsOk, Err, ◌≢◌, true};
+ghost use Rattle.slotmap_core.specs.Words.{Key as KeyOf, get, is_null, CallableOnEach, keyed};
+ghost use Rattle.slotmap_sparse.specs.Content.{most_keys, room};
 
-use slotmap_core::errors::ReserveError;
+use slotmap_core::errors::{PutError, ReserveError};
 use slotmap_core::keys::Key;
-use slotmap_sparse::SparseSecondaryMap;
+use slotmap_core::secondary::OrPut;
+use slotmap_sparse::{DefaultHasher, SparseSecondaryMap};
 use std::alloc::Global;
-use std::hash::BuildHasher;
 
-/// No key is in it.
-/// Holds by `empty` of `new`.
-pub fn new_makes_an_empty_map<K: Key, V: Drop>(
-    alloc: Global,
-) -> Result<SparseSecondaryMap<K, V>, ReserveError>
-    ensures { IfOk result (λ made. (key : KeyOf) → get made.pairs key ≡ None) }
-{
-    SparseSecondaryMap::new(alloc)
-}
-
-/// Guards of `with_capacity`.
-pub fn with_capacity<K: Key, V: Drop>(
+/// A map for `capacity` keys fails with `TooGreat` exactly above the limit; with the caller's own
+/// hasher too.
+/// Holds by `err` and `fits` of `with_capacity`, and `err` and `fits` of
+/// `with_capacity_and_hasher`.
+pub fn with_capacity_is_too_great_above_the_limit_alone<K: Key, V: Drop>(
     alloc: Global,
     capacity: usize,
+    own: Option<DefaultHasher>,
 ) -> Result<SparseSecondaryMap<K, V>, ReserveError>
-    // No key is in the map.
-    // Holds by `empty` of `with_capacity`.
-    ensures with_capacity_makes_room_empty { IfOk result (λ made. (key : KeyOf) → get made.pairs key ≡ None) }
-    // It fails with `TooGreat` exactly above the limit.
-    // Holds by `err` and `fits` of `with_capacity`.
-    ensures with_capacity_is_too_great_above_the_limit_alone_above { result ≡ Err ReserveError.TooGreat → most_keys < capacity }
-    ensures with_capacity_is_too_great_above_the_limit_alone_within { OnOk result (capacity ≤ most_keys) }
-    ensures with_capacity_is_too_great_above_the_limit_alone_memory { result ≡ Err ReserveError.Memory → capacity ≤ most_keys }
+    ensures above { result ≡ Err ReserveError.TooGreat → most_keys < capacity }
+    ensures within { OnOk result (capacity ≤ most_keys) }
+    ensures memory { result ≡ Err ReserveError.Memory → capacity ≤ most_keys }
 {
-    SparseSecondaryMap::with_capacity(alloc, capacity)
+    match own {
+        Some(hasher) => SparseSecondaryMap::with_capacity_and_hasher(alloc, capacity, hasher),
+        None => SparseSecondaryMap::with_capacity(alloc, capacity),
+    }
 }
 
-/// No key is in it.
-/// Holds by `empty` of `with_hasher`.
-pub fn with_hasher_makes_an_empty_map<K: Key, V: Drop, S: BuildHasher + Drop>(
-    alloc: Global,
-    hash_builder: S,
-) -> Result<SparseSecondaryMap<K, V, S>, ReserveError>
-    ensures { IfOk result (λ made. (key : KeyOf) → get made.pairs key ≡ None) }
-{
-    SparseSecondaryMap::with_hasher(alloc, hash_builder)
-}
-
-/// Guards of `with_capacity_and_hasher`.
-pub fn with_capacity_and_hasher<K: Key, V: Drop, S: BuildHasher + Drop>(
-    alloc: Global,
-    capacity: usize,
-    hash_builder: S,
-) -> Result<SparseSecondaryMap<K, V, S>, ReserveError>
-    // No key is in the map.
-    // Holds by `empty` of `with_capacity_and_hasher`.
-    ensures with_capacity_and_hasher_makes_room_empty { IfOk result (λ made. (key : KeyOf) → get made.pairs key ≡ None) }
-    // It fails with `TooGreat` exactly above the limit.
-    // Holds by `err` and `fits` of `with_capacity_and_hasher`.
-    ensures with_capacity_and_hasher_is_too_great_above_the_limit_alone_above { result ≡ Err ReserveError.TooGreat → most_keys < capacity }
-    ensures with_capacity_and_hasher_is_too_great_above_the_limit_alone_within { OnOk result (capacity ≤ most_keys) }
-    ensures with_capacity_and_hasher_is_too_great_above_the_limit_alone_memory { result ≡ Err ReserveError.Memory → capacity ≤ most_keys }
-{
-    SparseSecondaryMap::with_capacity_and_hasher(alloc, capacity, hash_builder)
-}
-
-/// Guards of `reserve`.
+/// Guards of `reserve` and of `try_reserve`.
 pub fn reserve<K: Key, V: Drop>(
-    table: &mut SparseSecondaryMap<K, V>,
+    store: &mut SparseSecondaryMap<K, V>,
     additional: usize,
+    tries: bool,
 ) -> Result<(), ReserveError>
     // There is memory for so many more keys then.
-    // Refuses `reserve_asks_for_half`: `makes_room` of `reserve`.
-    ensures reserve_makes_room { OnOk result (map.len table.old.pairs + additional ≤ table.new.capacity) }
+    // Refuses `reserve_asks_for_half`: `makes_room` of `reserve` and `makes_room` of `try_reserve`.
+    ensures reserve_makes_room { OnOk result (map.len store.old.pairs + additional ≤ store.new.capacity) }
     // Where there is memory already, it succeeds and changes nothing.
-    // Refuses `reserve_takes_more_where_there_is_room`: `makes_room` of `reserve`.
-    ensures reserve_with_room_changes_nothing_succeeds { map.len table.old.pairs + additional ≤ table.old.capacity → map.len table.old.pairs + additional ≤ most_keys → IsOk result }
-    ensures reserve_with_room_changes_nothing_unchanged { map.len table.old.pairs + additional ≤ table.old.capacity → table.new ≡ table.old }
-    // It fails with `TooGreat` exactly above the limit, and asks for no memory then. The pairs stay.
-    // Refuses `reserve_takes_memory_and_says_too_great`, `reserve_takes_the_greatest_number`:
-    // `makes_room` of `reserve`.
-    ensures reserve_is_too_great_above_the_limit_alone_above { result ≡ Err ReserveError.TooGreat → most_keys < map.len table.old.pairs + additional }
-    ensures reserve_is_too_great_above_the_limit_alone_within { OnOk result (map.len table.old.pairs + additional ≤ most_keys) }
-    ensures reserve_is_too_great_above_the_limit_alone_unchanged { result ≡ Err ReserveError.TooGreat → table.new ≡ table.old }
-    ensures reserve_is_too_great_above_the_limit_alone_keeps { table.new.pairs ≡ table.old.pairs }
+    // Refuses `reserve_takes_more_where_there_is_room`.
+    ensures reserve_with_room_changes_nothing_succeeds { map.len store.old.pairs + additional ≤ store.old.capacity → map.len store.old.pairs + additional ≤ most_keys → IsOk result }
+    ensures reserve_with_room_changes_nothing_unchanged { map.len store.old.pairs + additional ≤ store.old.capacity → store.new ≡ store.old }
+    // It fails with `TooGreat` exactly above the limit, and asks for no memory then. The pairs
+    // stay.
+    // Refuses `reserve_takes_memory_and_says_too_great`, `reserve_takes_the_greatest_number`.
+    ensures reserve_is_too_great_above_the_limit_alone_above { result ≡ Err ReserveError.TooGreat → most_keys < map.len store.old.pairs + additional }
+    ensures reserve_is_too_great_above_the_limit_alone_within { OnOk result (map.len store.old.pairs + additional ≤ most_keys) }
+    ensures reserve_is_too_great_above_the_limit_alone_unchanged { result ≡ Err ReserveError.TooGreat → store.new ≡ store.old }
+    ensures reserve_is_too_great_above_the_limit_alone_keeps { store.new.pairs ≡ store.old.pairs }
 {
-    table.reserve(additional)
+    if tries {
+        store.try_reserve(additional)
+    } else {
+        store.reserve(additional)
+    }
 }
 
-/// Guards of `try_reserve`.
-pub fn try_reserve<K: Key, V: Drop>(
-    table: &mut SparseSecondaryMap<K, V>,
-    additional: usize,
-) -> Result<(), ReserveError>
-    // There is memory for so many more keys then.
-    // Holds by `makes_room` of `try_reserve`.
-    ensures try_reserve_makes_room { OnOk result (map.len table.old.pairs + additional ≤ table.new.capacity) }
-    // Where there is memory already, it succeeds and changes nothing.
-    // Holds by `makes_room` of `try_reserve`.
-    ensures try_reserve_with_room_changes_nothing_succeeds { map.len table.old.pairs + additional ≤ table.old.capacity → map.len table.old.pairs + additional ≤ most_keys → IsOk result }
-    ensures try_reserve_with_room_changes_nothing_unchanged { map.len table.old.pairs + additional ≤ table.old.capacity → table.new ≡ table.old }
-    // It fails with `TooGreat` exactly above the limit, and asks for no memory then. The pairs stay.
-    // Holds by `makes_room` of `try_reserve`.
-    ensures try_reserve_is_too_great_above_the_limit_alone_above { result ≡ Err ReserveError.TooGreat → most_keys < map.len table.old.pairs + additional }
-    ensures try_reserve_is_too_great_above_the_limit_alone_within { OnOk result (map.len table.old.pairs + additional ≤ most_keys) }
-    ensures try_reserve_is_too_great_above_the_limit_alone_unchanged { result ≡ Err ReserveError.TooGreat → table.new ≡ table.old }
-    ensures try_reserve_is_too_great_above_the_limit_alone_keeps { table.new.pairs ≡ table.old.pairs }
+/// Guards of `insert`.
+pub fn insert<K: Key, V: Drop>(
+    store: &mut SparseSecondaryMap<K, V>,
+    key: K,
+    value: V,
+) -> Result<Option<V>, PutError<V>>
+    // Where the index has a pair, it succeeds.
+    // Refuses `insert_asks_for_memory_where_a_pair_stands`: `absent` of `insert`.
+    ensures insert_over_a_pair_needs_no_memory_succeeds { map.contains_key store.old.pairs (K.data_of key).index ≡ true → IsOk result }
+    // For the null key it asks for no memory.
+    // Holds by `null` of `insert`.
+    ensures insert_of_the_null_key_asks_for_no_memory { is_null (K.data_of key) ≡ true → store.new.capacity ≡ store.old.capacity }
 {
-    table.try_reserve(additional)
+    store.insert(key, value)
+}
+
+/// Guards of `or_put`.
+pub fn or_put<K: Key, V: Drop>(store: &mut SparseSecondaryMap<K, V>, key: K, value: V) -> OrPut<V>
+    // Where there is memory for one more key, or a pair at the index, memory can't run out.
+    // Refuses `or_put_says_memory_at_an_older_pair_when_full`: `room` and `absent` of `or_put`.
+    ensures or_put_with_room_needs_no_memory_room { map.len store.old.pairs < store.old.capacity → result ≢ OrPut.Memory value }
+    ensures or_put_with_room_needs_no_memory_stood { map.contains_key store.old.pairs (K.data_of key).index ≡ true → result ≢ OrPut.Memory value }
+    // For the null key it asks for no memory.
+    // Holds by `null` of `or_put`.
+    ensures or_put_of_the_null_key_asks_for_no_memory { is_null (K.data_of key) ≡ true → store.new.capacity ≡ store.old.capacity }
+{
+    store.or_put(key, value)
+}
+
+/// There is room for as many further keys.
+/// Holds by `room` of `retain`.
+pub fn retain_loses_no_room<K: Key, V: Drop, F: FnMut(K, &mut V) -> bool + Drop>(
+    store: &mut SparseSecondaryMap<K, V>,
+    f: F,
+)
+    requires { CallableOnEach F.FnMut K.data_of f (keyed store.old.pairs) }
+    ensures { room store.old ≤ room store.new }
+{
+    store.retain(f);
+}
+
+/// So it is with `remove`.
+/// Holds by `room` of `remove`.
+pub fn remove_loses_no_room<K: Key, V: Drop>(
+    store: &mut SparseSecondaryMap<K, V>,
+    key: K,
+) -> Option<V>
+    ensures { room store.old ≤ room store.new }
+{
+    store.remove(key)
+}
+
+/// No key is left.
+/// Refuses `clear_keeps_the_keys`: `empty` of `clear`.
+pub fn clear_leaves_no_key<K: Key, V: Drop>(store: &mut SparseSecondaryMap<K, V>)
+    ensures none { (key : KeyOf) → get store.new.pairs key ≡ None }
+{
+    store.clear();
 }
