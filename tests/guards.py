@@ -6,9 +6,11 @@
 
 A clause is held by one of these:
 - a guard: a function of map_guards in the module of the clause's crate, as `map_guards::run` of `slotmap_run`, with a comment that names the clause
-  and its call, as "`ok` and `err` of `insert`". Its file has to name the call's type too, where that isn't the map itself.
+  and its call, as "`ok` and `err` of `insert`". Its file has to name the call's type too, where that isn't the map itself. A method of a trait
+  in the module `traits` is a guard of each map that the trait is implemented for there;
 - a caller: a function that makes the call, in the library or above it, whose answers cite the clause by name;
-- a trait: one of slotmap_core that the map has, with a clause of this name at this call. The impl delegates with no proof, so it refuses a weaker clause;
+- a trait: one of slotmap_core that the map has, with a clause of this name at this call. The impl delegates with no proof, so it refuses a weaker clause.
+  The trait's own clauses are listed too: a function of the module `traits` that is generic over the trait is a guard of them;
 - its text, if no word in it is a definition of this repository: what it says is in contracts.lock, and a guard could only say it again;
 - a reason, in REASONS.
 """
@@ -29,6 +31,8 @@ from sources import MAPS, read, signature_and_clauses
 
 CRATES = [f"slotmap_{it}" for it in ("basic", "dense", "hop", "secondary", "sparse", "run", "json", "script")]
 GUARDS = "map_guards"
+# The traits of slotmap_core that maps have.
+TRAITS = ["Primary", "Detaching", "Secondary"]
 # Why a clause needs no guard: by its crate, its call and its name. `*` is any crate.
 REASONS = {
     ("*", "size_hint", "lower"): "its `exact` says more",
@@ -36,6 +40,54 @@ REASONS = {
     ("*", "size_hint", "exact"): "`len` of the iterator says it, and is what callers go by",
     ("*", "replace_disjoint", "valid"): "another clause names the whole content",
     ("*", "eq", "value"): "its `which` says it by what both maps hold",
+    ("*", "clone", "copies_if_clones_equal"): "its `clones` says more",
+    ("*", "clone_from", "copies_if_clones_equal"): "its `clones` says more",
+    ("*", "clone", "order_if_clones_equal"): "its `order` says more",
+    ("*", "clone_from", "order_if_clones_equal"): "its `order` says more",
+    ("*", "keys", "listing"): "its `in_order` says more",
+    ("*", "values", "listing"): "its `in_order` says more",
+    ("*", "to_slots", "writes"): "`writes_if_clones_equal` and `contents` are what callers go by",
+    ("slotmap_secondary", "to_slots", "contents"): "`writes_if_clones_equal` is what callers go by",
+    ("slotmap_sparse", "to_slots", "contents"): "`writes_if_clones_equal` is what callers go by",
+    ("*", "to_slots", "contents_if_clones_equal"): "its `contents` says more",
+    ("*", "drain", "stays"): "of all steps of a drain, of which no proved caller makes more: contracts.lock tells of a change",
+    ("*", "drain", "lists"): "of all steps of a drain, of which no proved caller makes more: contracts.lock tells of a change",
+    ("*", "drain", "in_order"): "of all steps of a drain, of which no proved caller makes more: contracts.lock tells of a change",
+    ("*", "drain_into", "freed_order"): "it has the words of `clear`, which has a guard",
+    ("*", "retain", "freed_order"): "it has the words of `clear`, which has a guard",
+    ("*", "replace_disjoint", "which"): "it has the words of `SlotMap`, which has a guard",
+    ("*", "replace_disjoint", "value"): "it has the words of `SlotMap`, which has a guard",
+    ("*", "replace_disjoint", "ok"): "it has the words of `SlotMap`, which has a guard",
+    ("*", "from_iter", "ok"): "it is `extend` of an empty map, which callers go by",
+    ("*", "from_iter", "err"): "it is `extend` of an empty map, which callers go by",
+    ("slotmap_secondary", "from_iter", "places"): "it is `extend` of an empty map, which callers go by",
+    ("slotmap_sparse", "with_capacity", "err"): "it has the limit of `reserve`, which has a guard",
+    ("slotmap_sparse", "with_capacity", "fits"): "it has the limit of `reserve`, which has a guard",
+    ("slotmap_sparse", "with_capacity_and_hasher", "err"): "it has the limit of `reserve`, which has a guard",
+    ("slotmap_sparse", "with_capacity_and_hasher", "fits"): "it has the limit of `reserve`, which has a guard",
+    ("slotmap_sparse", "from_iter_with_hasher", "ok"): "it is `extend` of an empty map, which callers go by",
+    ("slotmap_sparse", "from_iter_with_hasher", "err"): "it is `extend` of an empty map, which callers go by",
+    ("*", "and_modify", "key"): "its `same_writes` says it of the map",
+    ("*", "and_modify", "same_removal"): "it says something of the entry alone, of which no proved caller makes more: contracts.lock tells of a change",
+    ("*", "get", ""): "it says something of the entry alone, of which no proved caller makes more: contracts.lock tells of a change",
+    ("*", "get_mut", "written"): "it says something of the entry alone, of which no proved caller makes more: contracts.lock tells of a change",
+    ("*", "insert", "written"): "it says something of the entry alone, of which no proved caller makes more: contracts.lock tells of a change",
+    ("*", "extend_refs", "extends"): "it has the words of `extend`, which callers go by",
+    ("slotmap_secondary", "extend_refs", "grows"): "it has the words of `extend`, which has a guard",
+    ("slotmap_basic", "from_slots", "accepted"): "it has the words of `DenseSlotMap`, which has a guard",
+    ("slotmap_basic", "from_slots", "err"): "it has the words of `DenseSlotMap`, which has a guard",
+    ("slotmap_basic", "new", "starts"): "it is `with_key`, which has a guard",
+    ("slotmap_dense", "clone_from", "order"): "it has the words of `clone`, which has a guard",
+    ("slotmap_dense", "reattach", "unchanged"): "its `valid` says more",
+    ("slotmap_dense", "get_disjoint_unchecked_mut", "value"): "it has the words of `get_disjoint_mut`, which has a guard",
+    ("slotmap_dense", "values_mut", "runs"): "of all steps of an iterator, of which no proved caller makes more: contracts.lock tells of a change",
+    ("slotmap_hop", "retain", "order"): "of all calls of the closure, of which no proved caller makes more: contracts.lock tells of a change",
+    ("slotmap_hop", "drain_into", "blocks"): "it has the words of `clear`, which has a guard",
+    ("slotmap_hop", "insert", "unchanged"): "`valid` of the trait says it, and holds by it alone",
+    ("slotmap_hop", "insert_with_key", "unchanged"): "`valid` of the trait says it, and holds by it alone",
+    ("slotmap_hop", "try_insert_with_key", "unchanged"): "`valid` of the trait says it, and holds by it alone",
+    ("slotmap_hop", "insert_with_key", "blocks"): "it has the words of `insert`, which has a guard",
+    ("slotmap_hop", "try_insert_with_key", "blocks"): "it has the words of `insert`, which has a guard",
     ("slotmap_dense", "into_iter", "into_iter_gives"): "`iter_mut`, which this is, has guards",
     ("slotmap_dense", "into_iter", "writes_back"): "`iter_mut`, which this is, has guards",
     ("slotmap_script", "run", "ran"): "`run_script` is proved over it",
@@ -53,9 +105,9 @@ REASONS = {
     ("slotmap_script", "run_script", "unread"): "slotrun's theorem, of which no proved caller makes more: contracts.lock tells of a change",
 }
 # The `valid` that says only that a map, or a key, is well formed: each other call of it says the same.
-WELL_FORMED = re.compile(r"(IfOk result |OnOk result )?\(?Is(Content true|Dense|HopContent|SideContent|SparseContent|Key)\b")
-# As in "`a`, `b` and `c` of `call`", or "`call` of `Type`".
-CLAIM = re.compile(r"((?:`\w+`(?:, | and |, and )?)+) of (?:its )?(`[\w:]+`|drop)")
+WELL_FORMED = re.compile(r"(IfOk result |OnOk result )?\(?(λ m\. )?Is(Content (true|REUSES)|Dense|HopContent|SideContent|SparseContent|Key)\b")
+# As in "`a`, `b` and `c` of `call`", "`a` of `call`, of `other` and of `third`", or "`call` of `Type`".
+CLAIM = re.compile(r"((?:`\w+`(?:, | and |, and )?)+) of (?:its )?(`[\w:]+`|drop)((?:(?:, | and |, and )of `\w+`)*)")
 
 
 class Clause:
@@ -73,6 +125,17 @@ def functions_in(crate):
         for member in item.members if item.kind == "impl" else []:
             if member.kind == "fn":
                 yield member, item
+
+
+def clauses_of_the_traits():
+    for trait in [it for it in items("slotmap_core") if it.kind == "trait" and it.name in TRAITS]:
+        for member in [it for it in trait.members if it.kind == "fn"]:
+            for kind, name, text in signature_and_clauses(member)[1]:
+                if kind != "requires":
+                    meaning = Scope("slotmap_core", member.path, trait).meaning
+                    clause = Clause("slotmap_core", None, member.name, name, Part(name, normal(text, ".rt"), meaning))
+                    clause.of = trait.name
+                    yield clause
 
 
 def public_clauses(crate):
@@ -95,28 +158,54 @@ def text_of(path, line):
     return "\n".join(rest[: end + 1])
 
 
-def comments_of(item):
+def comments_of(item, of_trait=False):
     """The comments of a function, each on one line."""
-    inner = re.findall(r"(?m)(?:^ *//[^\n]*\n)+", text_of(item.path, item.line))
+    text = "\n".join(item.lines) if of_trait else text_of(item.path, item.line)
+    inner = re.findall(r"(?m)(?:^ *//[^\n]*\n)+", text)
     return [" ".join(item.doc), *(" ".join(it.strip().lstrip("/").strip() for it in block.split("\n")) for block in inner)]
+
+
+def claims(comments, path):
+    """What comments name: the words before `of`, the one behind it, and the text of the file."""
+    for comment in comments:
+        for names, call, others in CLAIM.findall(comment):
+            for behind in [call, *re.findall(r"of `(\w+)`", others)]:
+                yield set(re.findall(r"`(\w+)`", names)), behind.strip("`").split("::")[-1], read(path)
+
+
+def module_of(item):
+    return re.split(r"[/.]", item.path)[3]
 
 
 @functools.cache
 def guards_of(crate):
-    """What the guards of a crate name: the words of a comment before `of`, the one behind it, and the text of the file."""
-    module, found = crate.removeprefix("slotmap_"), []
-    for item, _ in functions_in(GUARDS):
-        if re.split(r"[/.]", item.path)[3] == module:
-            for comment in comments_of(item):
-                for names, call in CLAIM.findall(comment):
-                    found.append((set(re.findall(r"`(\w+)`", names)), call.strip("`").split("::")[-1], read(item.path)))
-    return found
+    """What the guards in the module of a crate name."""
+    own = [item for item, block in functions_in(GUARDS) if not block and module_of(item) == crate.removeprefix("slotmap_")]
+    return [it for item in own for it in claims(comments_of(item), item.path)]
+
+
+@functools.cache
+def guards_over(trait):
+    """What the functions of the module `traits` name that are generic over a trait of slotmap_core."""
+    own = [item for item, block in functions_in(GUARDS) if not block and module_of(item) == "traits"]
+    over = [item for item in own if re.search(rf"\b{trait}<K, V>", signature_and_clauses(item)[0])]
+    return [it for item in over for it in claims(comments_of(item), item.path)]
+
+
+@functools.cache
+def guards_in_traits(crate):
+    """What the methods of traits of the module `traits` name, where the trait is implemented for a type of the crate."""
+    types = {it.name for it in items(crate) if it.kind == "struct"}
+    ours = [it for it in items(GUARDS) if module_of(it) == "traits"]
+    have = {it.of_trait.split("<")[0] for it in ours if it.kind == "impl" and it.of in types}
+    methods = [member for it in ours if it.kind == "trait" and it.name in have for member in it.members if member.kind == "fn"]
+    return [it for item in methods for it in claims(comments_of(item, True), item.path)]
 
 
 def is_guarded(it):
-    for names, behind, text in guards_of(it.crate):
+    for names, behind, text in guards_over(it.of) if it.of in TRAITS else guards_of(it.crate) + guards_in_traits(it.crate):
         named = it.name in names and behind == it.call or behind == it.of and it.call in names or not it.name and behind == it.call
-        if named and (it.of in MAPS or it.of in text):
+        if named and (it.of in MAPS or it.of in TRAITS or it.of in text):
             return True
     return False
 
@@ -169,9 +258,9 @@ def reason_for(it):
 def listed():
     """The clauses that nothing holds, the reasons that some clause needs, and how many clauses each crate has."""
     faults, needed, counts = [], {"valid"}, {}
-    for it in [it for crate in CRATES for it in public_clauses(crate)]:
+    for it in [*clauses_of_the_traits(), *(it for crate in CRATES for it in public_clauses(crate))]:
         counts[it.crate] = counts.get(it.crate, 0) + 1
-        held = (it.of, it.call, it.name) in clauses_of_traits(it.crate) or names_no_definition(it.part)
+        held = it.crate in CRATES and (it.of, it.call, it.name) in clauses_of_traits(it.crate) or names_no_definition(it.part)
         if not held and not is_guarded(it) and not is_cited(it):
             reason = reason_for(it)
             needed.add(reason)

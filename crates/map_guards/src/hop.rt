@@ -1,9 +1,6 @@
 //! Guards of `HopSlotMap`, whose wrong bodies are in `slotmap_hop`.
 #![tactic(auto, using(slotmap_core::proofs::ForCallers::Callers::keys))]
 
-pub mod access;
 pub mod blocks;
-pub mod clones;
-pub mod drain;
 pub mod iter;
 pub mod lists;

@@ -1,10 +1,9 @@
 //! Guards of the maps and of their runs: what a user relies on, each proved from the contract of one call alone.
 //!
-//! A function makes one call. Its clauses are guards of that call: a clause has the name of its guard, and
-//! begins with the premise of that guard, if it has one. A function with a single guard has its name itself. The
+//! A function makes one call, or one of a few that do the same. Its clauses are guards of that call. The
 //! comment of a guard names the clause that it needs, and the wrong bodies that it stands for: files
-//! in `must-fail` or `more-wrong-bodies` of the map's crate. Once somebody weakens the clause, the guard is no
-//! longer proved. A guard that names no body stands for a clause that no body breaks alone.
+//! in `must-fail` or `more-wrong-bodies` of the map's crate. Once somebody weakens the clause, the guard
+//! is no longer proved. What a clause says to the letter has no guard.
 #![tactic(auto)]
 
 pub mod basic;
@@ -14,3 +13,4 @@ pub mod json;
 pub mod run;
 pub mod secondary;
 pub mod sparse;
+pub mod traits;

@@ -1,11 +1,7 @@
 //! Guards of `SparseSecondaryMap`, whose wrong bodies are in `slotmap_sparse`.
 #![tactic(auto, using(slotmap_core::proofs::ForCallers::SecondaryCallers::secondary))]
 
-pub mod access;
-pub mod clones;
-pub mod drain;
 pub mod entries;
-pub mod extend;
 pub mod iter;
 pub mod lists;
 pub mod room;

@@ -1,7 +1,7 @@
-//! Keys by their index.
+//! Keys by their index, and the order in which slots are freed.
 
 ghost use Rattle.std.specs.Prelude.{◌≡◌, ◌<◌, ◌≤◌, Some, IfSome, IsSome};
-ghost use Rattle.slotmap_core.specs.Words.{Key as KeyOf, IsLive};
+ghost use Rattle.slotmap_core.specs.Words.{Key as KeyOf, FreesByIndex, IsLive};
 
 use slotmap_basic::SlotMap;
 use slotmap_core::keys::Key;
@@ -41,4 +41,12 @@ pub fn next_after_no_key_begins_with_the_first<K: Key, V: Drop>(
     ensures first { (other : KeyOf) → IsLive store.now other → IfSome result (λ found. (K.data_of found.0).index ≤ other.index) }
 {
     store.next_after(None)
+}
+
+/// Slots are freed by ascending index.
+/// Holds by `freed_order` of `clear`.
+pub fn clear_frees_by_index<K: Key, V: Drop>(store: &mut SlotMap<K, V>)
+    ensures { FreesByIndex store.old store.new }
+{
+    store.clear();
 }

@@ -1,14 +1,12 @@
 //! Iterators that yield mutable references, and mutable slices.
 
 ghost use Rattle.std.specs.FinMap as map;
-ghost use Rattle.std.specs.Prelude.{◌≡◌, ◌↔◌, ◌∷◌, [], Some, IfSome, IfNone, IsSome, List, length, zip, map as list_map};
-ghost use Rattle.slotmap_core.specs.Several.{CanReplace};
-ghost use Rattle.slotmap_core.specs.Words.{YieldsMutRefsInOrder};
-ghost use Rattle.slotmap_dense.specs.Dense.{value_of};
-ghost use Rattle.slotmap_dense.specs.IterMut.{values_mut_rest, values_mut_steps};
+ghost use Rattle.std.specs.Prelude.{◌≡◌, ◌↔◌, ◌∷◌, [], Some, IfSome, IfNone, IsSome, List, length, zip, map as list_map, IfOk, OnOk, IsOk};
+ghost use Rattle.slotmap_core.specs.Several.{CanReplace, with_values};
+ghost use Rattle.slotmap_dense.specs.Dense.{value_of, with_value_of};
 
 use slotmap_core::keys::Key;
-use slotmap_dense::{DenseSlotMap, ValuesMut};
+use slotmap_dense::DenseSlotMap;
 
 /// The values of both keys are lent, in their order, exactly where both are live and differ.
 /// Refuses `get_disjoint_mut_lends_in_the_other_order`: `which` and `value` of `get_disjoint_mut`.
@@ -22,18 +20,6 @@ pub fn get_disjoint_mut_lends_both_values<K: Key, V: Drop>(
     store.get_disjoint_mut(keys)
 }
 
-/// The values of both keys are lent, in their order.
-/// Holds by the premise and `value` of `get_disjoint_unchecked_mut`.
-pub fn get_disjoint_unchecked_mut_lends_both_values<K: Key, V: Drop>(
-    store: &mut DenseSlotMap<K, V>,
-    keys: [K; 2],
-) -> (&mut V, &mut V)
-    requires { CanReplace value_of store.old (list_map K.data_of keys) }
-    ensures { list_map (map.get store.old.content.live) (list_map K.data_of keys) ≡ list_map Some (result.0.now ∷ result.1.now ∷ []) }
-{
-    store.get_disjoint_unchecked_mut(keys)
-}
-
 /// A live key is lent with its value.
 /// Refuses `iter_mut_gives_another_key`: `in_order` and `ready` of `iter_mut`, and `next_gives` of
 /// `IterMut`.
@@ -43,14 +29,6 @@ pub fn iter_mut_lends_a_live_key_with_its_value<K: Key, V: Drop>(
     ensures { IfSome result (λ pair. map.get store.old.content.live (K.data_of pair.0) ≡ Some pair.1.now) }
 {
     store.iter_mut().next()
-}
-
-/// It lends each key with its value, in packed order.
-/// Holds by `in_order` of `iter_mut`, and `len` of `IterMut`.
-pub fn iter_mut_lends_each_value<K: Key, V: Drop>(store: &mut DenseSlotMap<K, V>) -> usize
-    ensures { result ≡ length (zip store.old.keys store.old.values) }
-{
-    store.iter_mut().len()
 }
 
 /// The first value in packed order is lent first.
@@ -64,22 +42,15 @@ pub fn values_mut_begins_with_the_first_value<K: Key, V: Drop>(
     store.values_mut().next()
 }
 
-/// It lends as many values as there are.
-/// Holds by `in_order` of `values_mut`, and `len` of `ValuesMut`.
-pub fn values_mut_lends_each_value<K: Key, V: Drop>(store: &mut DenseSlotMap<K, V>) -> usize
-    ensures { result ≡ length store.old.values }
+/// As many pairs are lent as there are keys, and as many values.
+/// Holds by `in_order` of `iter_mut`, `in_order` of `values_mut`, `len` of `IterMut` and `len` of
+/// `ValuesMut`.
+pub fn each_value_is_lent<K: Key, V: Drop>(store: &mut DenseSlotMap<K, V>) -> (usize, usize)
+    ensures pairs { result.0 ≡ length (zip store.old.keys store.old.values) }
+    ensures values { result.1 ≡ length store.old.values }
 {
-    store.values_mut().len()
-}
-
-/// It lends the values one after the other, in packed order.
-/// Holds by `runs` of `values_mut`.
-pub fn values_mut_runs_in_order<K: Key, V: Drop>(
-    store: &mut DenseSlotMap<K, V>,
-) -> ValuesMut<'_, K, V>
-    ensures { YieldsMutRefsInOrder (values_mut_steps {K = K} {V = V}) values_mut_rest }
-{
-    store.values_mut()
+    let pairs = store.iter_mut().len();
+    (pairs, store.values_mut().len())
 }
 
 /// Once what was lent is given back, the keys stand where they stood, and no slot has changed.
@@ -108,4 +79,23 @@ pub fn values_move_beside_the_keys<K: Key, V: Drop>(store: &mut DenseSlotMap<K, 
         let (_, values) = store.as_mut_slices();
         values.reverse();
     }
+}
+
+/// Guards of `replace_disjoint`.
+pub fn replace_disjoint<K: Key, V: Drop, const N: usize>(
+    store: &mut DenseSlotMap<K, V>,
+    keys: [K; N],
+    values: [V; N],
+) -> Result<[V; N], [V; N]>
+    // It succeeds exactly where each key is live and no two are equal.
+    // Refuses `replace_disjoint_takes_equal_keys`: `which` of `replace_disjoint`.
+    ensures replace_disjoint_takes_live_keys_that_differ { IsOk result ↔ CanReplace value_of store.old (list_map K.data_of keys) }
+    // The values that the keys had are returned, in their order. Each key has the value at its
+    // position, and nothing else changes.
+    // Refuses `replace_disjoint_writes_under_the_first_key`: `value` and `ok` of
+    // `replace_disjoint`.
+    ensures replace_disjoint_exchanges_each_value_old { IfOk result (λ before. list_map (map.get store.old.content.live) (list_map K.data_of keys) ≡ list_map Some before) }
+    ensures replace_disjoint_exchanges_each_value_new { OnOk result (store.new ≡ with_values with_value_of store.old (list_map K.data_of keys) values) }
+{
+    store.replace_disjoint(keys, values)
 }

@@ -1,30 +1,14 @@
 //! Lists of slots.
 
-ghost use Rattle.std.specs.Prelude.{◌≡◌, Some, IfOk, IfErr, IsOk, false};
-ghost use Rattle.slotmap_core.specs.Words.{IsContent, ClonesEqual, start_live, start_stack, Accepts, list_limit, RefusesStart, Writes, WritesClones};
-ghost use Rattle.slotmap_core.specs.Words.{Restores, Bool, read_slots, Content};
+ghost use Rattle.std.specs.Prelude.{◌≡◌, Some, IfOk, IfErr, IsOk};
+ghost use Rattle.slotmap_core.specs.Words.{IsContent, start_live, start_stack, Accepts, list_limit, RefusesStart, Writes, Restores, Bool, read_slots};
+ghost use Rattle.slotmap_core.specs.Words.{Content};
 
-use slotmap_core::errors::{OutOfMemory, SlotsError};
+use slotmap_core::errors::SlotsError;
 use slotmap_core::keys::Key;
 use slotmap_core::serial::SlotRecord;
 use slotmap_dense::DenseSlotMap;
 use std::alloc::Global;
-
-/// Guards of `to_slots`.
-pub fn to_slots<K: Key, V: Clone + Drop>(
-    store: &DenseSlotMap<K, V>,
-) -> Result<Vec<SlotRecord<V>>, OutOfMemory>
-    // Where clones equal their values, the list has a record for each slot: the version and the
-    // value of a live key, and the version before the next key of a vacant slot.
-    // Refuses `to_slots_writes_the_first_value_everywhere`, `to_slots_writes_odd_versions_alone`:
-    // `writes_if_clones_equal` of `to_slots`.
-    ensures to_slots_writes_each_slot { ClonesEqual V.is_clone → IfOk result (λ list. Writes store.now.content list.items) }
-    // The list is that of a copy, and has a clone of each value.
-    // Holds by `writes` of `to_slots`.
-    ensures to_slots_clones_each_value_writes { IfOk result (λ list. WritesClones V.is_clone false store.now.content list.items) }
-{
-    store.to_slots()
-}
 
 /// Guards of `from_slots`.
 pub fn from_slots<K: Key, V: Drop>(

@@ -2,14 +2,11 @@
 
 ghost use Rattle.std.specs.FinMap as map;
 ghost use Rattle.std.specs.Prelude.{◌≡◌, ◌+◌, ◌<◌, IfOk, ◌||◌, ◌==◌, OnOk, OnErr};
-ghost use Rattle.slotmap_core.specs.Words.{used, most, IsNew, places, IsLive, CallableOnEach};
+ghost use Rattle.slotmap_core.specs.Words.{used, most, IsNew, places, IsLive};
 ghost use Rattle.slotmap_hop.specs.Blocks.{HasMaximalBlocks, offer_place, shorter};
 ghost use Rattle.slotmap_hop.specs.HopContent.{NoBlocks, blocks_without, blocks_without_all};
-ghost use Rattle.slotmap_hop.specs.Retain.{RetainsByIndex};
 
-use slotmap_core::errors::{
-    InsertError, InsertWithError, OutOfMemory, ReserveError, TryInsertError,
-};
+use slotmap_core::errors::{InsertError, ReserveError};
 use slotmap_core::keys::{DefaultKey, Key};
 use slotmap_hop::HopSlotMap;
 use std::alloc::Global;
@@ -59,34 +56,6 @@ pub fn insert_shortens_a_block<K: Key, V: Drop>(
     store.insert(value)
 }
 
-/// So it is with `insert_with_key`.
-/// Holds by `blocks` of `insert_with_key`.
-pub fn insert_with_key_shortens_a_block<K: Key, V: Drop, F: FnOnce(K) -> V + Drop>(
-    store: &mut HopSlotMap<K, V>,
-    f: F,
-) -> Result<K, InsertWithError>
-    requires { used store.old.content < most → (key : K) → K.data_of key ≡ store.old.content.offer → F.pre f key }
-    ensures ok { OnOk result (store.new.blocks ≡ shorter store.old.blocks) }
-    ensures err { OnErr result (store.new.blocks ≡ store.old.blocks) }
-{
-    store.insert_with_key(f)
-}
-
-/// So it is with `try_insert_with_key`.
-/// Holds by `blocks` of `try_insert_with_key`.
-pub fn try_insert_with_key_shortens_a_block<
-    K: Key,
-    V: Drop,
-    E,
-    F: FnOnce(K) -> Result<V, E> + Drop,
->(store: &mut HopSlotMap<K, V>, f: F) -> Result<K, TryInsertError<E>>
-    requires { used store.old.content < most → (key : K) → K.data_of key ≡ store.old.content.offer → F.pre f key }
-    ensures ok { OnOk result (store.new.blocks ≡ shorter store.old.blocks) }
-    ensures err { OnErr result (store.new.blocks ≡ store.old.blocks) }
-{
-    store.try_insert_with_key(f)
-}
-
 /// The slot joins the blocks of vacant slots beside it.
 /// Refuses `a_freed_slot_leads_nowhere`, `remove_after_a_block_starts_a_new_one`,
 /// `remove_before_a_block_moves_it_to_the_end`, `remove_between_two_blocks_keeps_both`: `value` and
@@ -100,34 +69,10 @@ pub fn removed_slot_joins_the_blocks<K: Key, V: Drop>(
     store.remove(key)
 }
 
-/// The closure is called by ascending index, and the slots of the removed keys join the blocks in
-/// that order.
-/// Holds by the premise and `order` of `retain`.
-pub fn retain_frees_by_index<K: Key, V: Drop, F: FnMut(K, &mut V) -> bool + Drop>(
-    store: &mut HopSlotMap<K, V>,
-    f: F,
-)
-    requires { CallableOnEach F.FnMut K.data_of f store.old.content.live }
-    ensures { RetainsByIndex F.FnMut K.data_of f store.old store.new }
-{
-    store.retain(f);
-}
-
 /// The slots join the blocks of vacant slots, by ascending index.
 /// Holds by `blocks` of `clear`.
 pub fn cleared_slots_join_the_blocks<K: Key, V: Drop>(store: &mut HopSlotMap<K, V>)
     ensures { store.new.blocks ≡ blocks_without_all store.old (map.keys store.old.content.live) }
 {
     store.clear();
-}
-
-/// So do those of the keys that `drain_into` removes.
-/// Holds by `blocks` of `drain_into`.
-pub fn drained_slots_join_the_blocks<K: Key, V: Drop>(
-    store: &mut HopSlotMap<K, V>,
-    out: &mut Vec<(K, V)>,
-) -> Result<(), OutOfMemory>
-    ensures { OnOk result (store.new.blocks ≡ blocks_without_all store.old (map.keys store.old.content.live)) }
-{
-    store.drain_into(out)
 }

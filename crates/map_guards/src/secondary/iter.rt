@@ -1,8 +1,8 @@
 //! Iterators over the keys and values, and the iterator by value.
 
 ghost use Rattle.std.specs.FinMap as map;
-ghost use Rattle.std.specs.Prelude.{◌≡◌, ◌∷◌, [], IfSome, IfNone};
-ghost use Rattle.slotmap_core.specs.Words.{IsListing, keyed};
+ghost use Rattle.std.specs.Prelude.{◌≡◌, IfSome, true};
+ghost use Rattle.slotmap_core.specs.Words.{IsListing, keyed, contains_key};
 
 use slotmap_core::keys::Key;
 use slotmap_secondary::{IntoIter, Iter, Keys, SecondaryMap, Values};
@@ -21,39 +21,22 @@ pub fn iterators_list_each_once<K: Key, V>(
     (store.iter(), store.keys(), store.values())
 }
 
-/// The first item that is left is yielded, and then the others are left. After its end an iterator
-/// yields nothing.
-/// Holds by `next_gives` of `Iter`, `Keys` and `Values`.
-pub fn first_item_is_yielded<'a, K: Key, V>(
-    pairs: &mut Iter<'a, K, V>,
-    keys: &mut Keys<'a, K, V>,
-    values: &mut Values<'a, K, V>,
-) -> (Option<(K, &'a V)>, Option<K>, Option<&'a V>)
-    ensures pair { IfSome result.0 (λ item. pairs.old ≡ (K.data_of item.0, item.1.now) ∷ pairs.new) }
-    ensures no_pair { IfNone result.0 ((pairs.old ≡ []) × (pairs.new ≡ [])) }
-    ensures key { IfSome result.1 (λ item. keys.old ≡ K.data_of item ∷ keys.new) }
-    ensures no_key { IfNone result.1 ((keys.old ≡ []) × (keys.new ≡ [])) }
-    ensures value { IfSome result.2 (λ item. values.old ≡ item.now ∷ values.new) }
-    ensures no_value { IfNone result.2 ((values.old ≡ []) × (values.new ≡ [])) }
-{
-    (pairs.next(), keys.next(), values.next())
-}
-
-/// The first pair that is left is yielded, and then the others are left.
-/// Holds by `next_gives` of `IntoIter`.
-pub fn owned_iterator_yields_its_first_pair<K: Key, V: Drop>(
-    pairs: &mut IntoIter<K, V>,
-) -> Option<(K, V)>
-    ensures some { IfSome result (λ pair. pairs.old ≡ (K.data_of pair.0, pair.1) ∷ pairs.new) }
-    ensures none { IfNone result (pairs.old ≡ []) }
-{
-    pairs.next()
-}
-
 /// A map by value yields each key once with its value.
 /// Refuses `into_iter_starts_at_its_end`: `into_iter_gives`.
 pub fn owned_iterator_lists_each_pair<K: Key, V: Drop>(store: SecondaryMap<K, V>) -> IntoIter<K, V>
     ensures { IsListing (keyed store.pairs) result }
 {
     store.into_iter()
+}
+
+/// The key is in the map and has the index.
+/// Refuses `key_at_reads_another_slot`: `there` of `key_at`.
+pub fn key_at_returns_the_key_of_the_index<K: Key, V: Drop>(
+    store: &SecondaryMap<K, V>,
+    index: usize,
+) -> Option<K>
+    ensures there { IfSome result (λ key. contains_key store.now.pairs (K.data_of key) ≡ true) }
+    ensures index { IfSome result (λ key. (K.data_of key).index ≡ index) }
+{
+    store.key_at(index)
 }

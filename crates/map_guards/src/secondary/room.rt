@@ -9,18 +9,15 @@ use slotmap_core::secondary::OrPut;
 use slotmap_secondary::SecondaryMap;
 use std::alloc::Global;
 
-/// Guards of `with_capacity`.
-pub fn with_capacity<K: Key, V: Drop>(
+/// It fails with `TooGreat` exactly above the limit.
+/// Refuses `with_capacity_beyond_the_limit`: `err` and `fits` of `with_capacity`.
+pub fn with_capacity_is_too_great_above_the_limit_alone<K: Key, V: Drop>(
     alloc: Global,
     capacity: usize,
 ) -> Result<SecondaryMap<K, V>, ReserveError>
-    // No key is in the map.
-    // Holds by `empty` of `with_capacity`.
-    // It fails with `TooGreat` exactly above the limit.
-    // Refuses `with_capacity_beyond_the_limit`: `err` and `fits` of `with_capacity`.
-    ensures with_capacity_is_too_great_above_the_limit_alone_above { result ≡ Err ReserveError.TooGreat → most < capacity }
-    ensures with_capacity_is_too_great_above_the_limit_alone_within { OnOk result (capacity ≤ most) }
-    ensures with_capacity_is_too_great_above_the_limit_alone_memory { result ≡ Err ReserveError.Memory → capacity ≤ most }
+    ensures above { result ≡ Err ReserveError.TooGreat → most < capacity }
+    ensures within { OnOk result (capacity ≤ most) }
+    ensures memory { result ≡ Err ReserveError.Memory → capacity ≤ most }
 {
     SecondaryMap::with_capacity(alloc, capacity)
 }
@@ -62,58 +59,36 @@ pub fn set_capacity<K: Key, V: Drop>(
     }
 }
 
-/// Guards of `insert`.
-pub fn insert<K: Key, V: Drop>(
+/// Where there is memory for the index, the capacity stays. There are slots up to the index, and no
+/// more.
+/// Refuses `insert_takes_memory_though_there_is_some`: `room` and `places` of `insert`.
+pub fn insert_makes_slots_up_to_the_index<K: Key, V: Drop>(
     store: &mut SecondaryMap<K, V>,
     key: K,
     value: V,
 ) -> Result<Option<V>, PutError<V>>
-    // A key that has an entry has the value then, and nothing is found under other versions of its
-    // index.
-    // Holds by `ok` of `insert`. A key that is older than the one at its index changes nothing;
-    // half of all versions are older.
-    // Refuses `insert_overwrites_a_newer_key`: `ok` of `insert`. A key that isn't older than the
-    // one at its index takes its place.
-    // Holds by `ok` of `insert`. The null key changes nothing.
-    // Refuses `insert_stores_the_null_key`: `ok` of `insert`. Nothing changes at other indices.
-    // Holds by `ok` of `insert`. Where memory runs out, no pair changes, and the error holds the
-    // value.
-    // Holds by `unchanged` and `err` of `insert`. It fails only where the key's entry is vacant.
-    // Holds by `err` of `insert`. Where there is memory for the index, the capacity stays.
-    // Refuses `insert_takes_memory_though_there_is_some`: `room` and `places` of `insert`.
-    ensures insert_with_room_needs_no_memory_capacity { (K.data_of key).index ≤ store.old.capacity → store.new.capacity ≡ store.old.capacity }
-    // There are slots up to the index, and no more.
-    // Holds by `places` of `insert`.
-    ensures insert_makes_slots_up_to_the_index { has_entry (entry store.old.pairs (K.data_of key)) ≡ true → OnOk result (store.new.places ≡ max store.old.places ((K.data_of key).index + 1)) }
+    ensures capacity { (K.data_of key).index ≤ store.old.capacity → store.new.capacity ≡ store.old.capacity }
+    ensures places { has_entry (entry store.old.pairs (K.data_of key)) ≡ true → OnOk result (store.new.places ≡ max store.old.places ((K.data_of key).index + 1)) }
 {
     store.insert(key, value)
 }
 
-/// Guards of `or_put`.
-pub fn or_put<K: Key, V: Drop>(store: &mut SecondaryMap<K, V>, key: K, value: V) -> OrPut<V>
-    // It says `Placed` exactly of a vacant entry, whose key has the value then.
-    // Refuses `or_put_says_placed_for_want_of_memory`: `does` of `or_put`. A key that has a value
-    // keeps it, and the new value comes back.
-    // Holds by `does` of `or_put`. A key with no entry, as one that is older than the key at its
-    // index, changes nothing, and the value comes back.
-    // Holds by `does` of `or_put`. Where there is memory for the index, memory can't run out.
-    // Holds by `room` of `or_put`. Slots are made up to the index of a key that is placed, with the
-    // capacity that there was, if it is enough. Else the map is as it was.
-    // Refuses `or_put_makes_a_slot_too_many`, `or_put_makes_slots_where_it_keeps`,
-    // `or_put_takes_memory_though_there_is_some`: `places` of `or_put`.
-    ensures or_put_makes_the_slots_of_a_placed_key_alone_placed { result ≡ OrPut.Placed → store.new.places ≡ max store.old.places ((K.data_of key).index + 1) }
-    ensures or_put_makes_the_slots_of_a_placed_key_alone_capacity { (K.data_of key).index ≤ store.old.capacity → store.new.capacity ≡ store.old.capacity }
-    ensures or_put_makes_the_slots_of_a_placed_key_alone_kept { result ≡ OrPut.Kept value → store.new ≡ store.old }
+/// Slots are made up to the index of a key that is placed, with the capacity that there was, if it is
+/// enough. Else the map is as it was.
+/// Refuses `or_put_makes_a_slot_too_many`, `or_put_makes_slots_where_it_keeps`,
+/// `or_put_takes_memory_though_there_is_some`: `places` of `or_put`.
+pub fn or_put_makes_the_slots_of_a_placed_key_alone<K: Key, V: Drop>(
+    store: &mut SecondaryMap<K, V>,
+    key: K,
+    value: V,
+) -> OrPut<V>
+    ensures placed { result ≡ OrPut.Placed → store.new.places ≡ max store.old.places ((K.data_of key).index + 1) }
+    ensures capacity { (K.data_of key).index ≤ store.old.capacity → store.new.capacity ≡ store.old.capacity }
+    ensures kept { result ≡ OrPut.Kept value → store.new ≡ store.old }
 {
     store.or_put(key, value)
 }
 
-/// The key is found no longer.
-/// Holds by `removes` of `remove`.
-/// Nothing changes at other indices.
-/// Holds by `removes` of `remove`.
-/// Where the key has no value, nothing changes.
-/// Holds by `removes` of `remove`.
 /// The slots and the capacity stay.
 /// Holds by `removes` of `remove`.
 pub fn remove_keeps_slots_and_capacity<K: Key, V: Drop>(

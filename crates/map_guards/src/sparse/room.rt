@@ -8,27 +8,7 @@ ghost use Rattle.slotmap_sparse.specs.Content.{most_keys, room};
 use slotmap_core::errors::{PutError, ReserveError};
 use slotmap_core::keys::Key;
 use slotmap_core::secondary::OrPut;
-use slotmap_sparse::{DefaultHasher, SparseSecondaryMap};
-use std::alloc::Global;
-
-/// A map for `capacity` keys fails with `TooGreat` exactly above the limit; with the caller's own
-/// hasher too.
-/// Holds by `err` and `fits` of `with_capacity`, and `err` and `fits` of
-/// `with_capacity_and_hasher`.
-pub fn with_capacity_is_too_great_above_the_limit_alone<K: Key, V: Drop>(
-    alloc: Global,
-    capacity: usize,
-    own: Option<DefaultHasher>,
-) -> Result<SparseSecondaryMap<K, V>, ReserveError>
-    ensures above { result ≡ Err ReserveError.TooGreat → most_keys < capacity }
-    ensures within { OnOk result (capacity ≤ most_keys) }
-    ensures memory { result ≡ Err ReserveError.Memory → capacity ≤ most_keys }
-{
-    match own {
-        Some(hasher) => SparseSecondaryMap::with_capacity_and_hasher(alloc, capacity, hasher),
-        None => SparseSecondaryMap::with_capacity(alloc, capacity),
-    }
-}
+use slotmap_sparse::SparseSecondaryMap;
 
 /// Guards of `reserve` and of `try_reserve`.
 pub fn reserve<K: Key, V: Drop>(
@@ -116,4 +96,12 @@ pub fn clear_leaves_no_key<K: Key, V: Drop>(store: &mut SparseSecondaryMap<K, V>
     ensures none { (key : KeyOf) → get store.new.pairs key ≡ None }
 {
     store.clear();
+}
+
+/// Nor does a `Drain` that is dropped lose capacity.
+/// Holds by `capacity` of its drop, and `map` and `same_reference` of `drain`.
+pub fn drain_loses_no_capacity<K: Key, V: Drop>(store: &mut SparseSecondaryMap<K, V>)
+    ensures { store.old.capacity ≤ store.new.capacity }
+{
+    store.drain();
 }
