@@ -112,7 +112,8 @@ public:
         values.make_room(values.size() + (more > vacant ? more - vacant : 0));
     }
 
-    template <class... Arguments> [[nodiscard]] key_type emplace(Arguments &&...arguments)
+    /* For a value whose key isn't wanted too, since walks reach it: only `insert` is [[nodiscard]]. */
+    template <class... Arguments> key_type emplace(Arguments &&...arguments)
     {
         /* First, since an argument may be a value of this map. */
         T value(std::forward<Arguments>(arguments)...);

@@ -20,11 +20,15 @@
 #   PYTHONS="python3.9 .." names other Pythons than python3. Random calls are made too over the module as gcc's address and
 #   undefined-behaviour sanitizers compile it;
 # - the program of docs/C.md in C, C++ and Python: each prints what the page says, also by the commands that the page has;
-# - the archive for AArch64 under qemu, and that for x86-64-v2;
+# - the archive for AArch64 under qemu, also by the classes, and that for x86-64-v2; the archive with musl's C library;
+# - that the headers compile for Windows without a warning: there is no archive for Windows to run;
+# - that c/dist.sh --check tells another kit's name, and refuses another byte;
 # - that the prototypes of slotmap.h are the exports;
 # - that the packages have the version of slotmap.h and the licences, and that dist/SHA256SUMS has the sums.
 #
-# It is outside the gate, and needs a C compiler and make. What else a machine lacks it leaves out, and says so. It needs no kit.
+# It is outside the gate, and needs a C compiler, binutils and make. What else a machine lacks it leaves out, and names: then the status is
+# 3. It is 1 if a test failed. It needs no kit. On Debian the rest is in valgrind, clang, cmake, pkg-config, python3-dev, python3-venv, mypy,
+# gcc-aarch64-linux-gnu, g++-aarch64-linux-gnu, qemu-user-static, musl-tools and g++-mingw-w64-x86-64.
 set -euo pipefail
 top=$(cd "$(dirname "$0")/.." && pwd)
 machine=$(uname -m)
@@ -42,11 +46,18 @@ fi
 [ -e "$archive" ] || { echo "c/test.sh: there is no $archive: run c/dist.sh, or name another" >&2; exit 2; }
 cd "$top/c"
 
+# leave REASON PART: names a part that isn't tested here.
+left_out=
+leave() {
+    echo "left out, since $1: $2"
+    left_out="$left_out; $2"
+}
+
 # has TOOL ..: whether the machine has these, with a word if not.
 has() {
     local tool
     for tool in "$@"; do
-        command -v "$tool" >/dev/null || { echo "left out, since $tool is missing: ${left:-}"; return 1; }
+        command -v "$tool" >/dev/null || { leave "$tool is missing" "${left:-}"; return 1; }
     done
 }
 
@@ -171,7 +182,7 @@ if left="sanitizers" has clang clang++; then
     if "$out/classes-readers" >"$out/printed" 2>&1; then
         echo "thread sanitizer: $(cat "$out/printed")"
     elif grep -q "unexpected memory mapping" "$out/printed"; then
-        echo "left out, since this kernel places memory where clang's thread sanitizer needs it: two threads that read"
+        leave "this kernel places memory where clang's thread sanitizer needs it" "two threads that read"
     else
         cat "$out/printed" >&2
         exit 1
@@ -298,12 +309,12 @@ python_tests() {
 }
 has_headers() {
     "$1" -c "import os, sysconfig; exit(not os.path.exists(sysconfig.get_path('include') + '/Python.h'))" ||
-        { echo "left out, since Python.h is missing: the Python package from source"; return 1; }
+        { leave "Python.h is missing" "the Python package from source"; return 1; }
 }
-cc -O2 -shared -fPIC tests/refuse.c -o "$out/refuse.so" 2>/dev/null || echo "left out, since this isn't glibc: refused memory in Python"
+cc -O2 -shared -fPIC tests/refuse.c -o "$out/refuse.so" 2>/dev/null || leave "this isn't glibc" "refused memory in Python"
 for python in ${PYTHONS:-python3}; do
     left="the Python package" has "$python" || continue
-    "$python" -m pip --version >/dev/null 2>&1 || { echo "left out, since $python has no pip: the Python package"; continue; }
+    "$python" -m pip --version >/dev/null 2>&1 || { leave "$python has no pip" "the Python package"; continue; }
     if has_headers "$python"; then
         SLOTMAP_ARCHIVE=$archive pip_into "$python" "$out/python-$(basename "$python")" ./python
         python_tests "$python"
@@ -323,7 +334,7 @@ sanitized_module() {
     cp python/slotmap_proved/*.py "$folder/slotmap_proved"
     gcc -std=c11 -O1 -g -Wall -Wextra -Werror -fsanitize=address,undefined -fno-sanitize-recover -fPIC -shared \
         "-I$("$1" -c "import sysconfig; print(sysconfig.get_path('include'))")" -I. python/src/*.c heap.c "$archive" -o "$module" 2>"$out/errors" || {
-        ! grep -q "cannot find" "$out/errors" || { echo "left out, since gcc's sanitizers are missing: the Python package with them"; return; }
+        ! grep -q "cannot find" "$out/errors" || { leave "gcc's sanitizers are missing" "the Python package with them"; return; }
         cat "$out/errors" >&2
         exit 1
     }
@@ -341,7 +352,7 @@ if left="the page's commands for python" has python3; then
     if python3 -c "import venv, ensurepip" 2>/dev/null; then
         typed python
     else
-        echo "left out, since venv or ensurepip is missing: the page's commands for python"
+        leave "venv or ensurepip is missing" "the page's commands for python"
     fi
 fi
 if left="the hints for Python" has mypy; then
@@ -359,6 +370,33 @@ if [ "$machine" != aarch64 ] && left="AArch64" has aarch64-linux-gnu-gcc qemu-aa
     checked "AArch64" qemu-aarch64-static "$out/keys-arm"
     checked "AArch64" qemu-aarch64-static "$out/readers-arm"
     same qemu-aarch64-static "$out/names-arm"
+fi
+if [ "$machine" != aarch64 ] && left="C++ on AArch64" has aarch64-linux-gnu-g++ aarch64-linux-gnu-gcc qemu-aarch64-static; then
+    aarch64-linux-gnu-gcc -std=c99 "${strict[@]}" -c heap.c -o "$out/heap-arm.o"
+    for program in classes values walks; do
+        aarch64-linux-gnu-g++ -std=c++17 "${strict[@]}" -static "tests/$program.cpp" "$out/heap-arm.o" "$arm" -o "$out/$program-arm"
+        checked "AArch64" qemu-aarch64-static "$out/$program-arm"
+    done
+fi
+if left="musl" has musl-gcc; then
+    for program in tests/calls tests/keys tests/readers examples/names; do
+        musl-gcc -std=c99 "${strict[@]}" -pthread -static "$program.c" heap.c "$archive" -o "$out/$(basename "$program")-musl"
+    done
+    for program in calls keys readers; do
+        checked "musl" "$out/$program-musl"
+    done
+    same "$out/names-musl"
+fi
+if left="the headers for Windows" has x86_64-w64-mingw32-gcc x86_64-w64-mingw32-g++; then
+    for program in heap.c tests/calls.c tests/keys.c examples/names.c examples/items.c; do
+        x86_64-w64-mingw32-gcc -std=c99 "${strict[@]}" -fsyntax-only "$program"
+    done
+    for program in classes values walks random refused; do
+        for standard in c++17 c++20; do
+            x86_64-w64-mingw32-g++ "-std=$standard" "${strict[@]}" -fsyntax-only "tests/$program.cpp"
+        done
+    done
+    echo "Windows: the headers and heap.c compile; there is no archive to run"
 fi
 if [ "$machine" = x86_64 ]; then
     for program in calls keys readers; do
@@ -418,4 +456,5 @@ for file in python/pyproject.toml python/backend.py python/README.md README.md .
 done
 sha256sum --quiet -c dist/SHA256SUMS
 echo "versions, licences and sums: the same everywhere"
+[ -z "$left_out" ] || { echo "c/test.sh: what ran has passed; left out${left_out/#;/:}"; exit 3; }
 echo "c/test.sh: ok"

@@ -5,10 +5,10 @@
 int main()
 {
     slotmaps::slot_map<std::string> names;
-    names.insert("river");
+    names.emplace("river");
     auto hill = names.insert("hill");
     names.erase(hill);
-    names.insert("lake"); /* reuses hill's slot, under a new key */
+    names.emplace("lake"); /* reuses hill's slot, under a new key */
     for (auto [key, name] : names)
         std::printf("%#llx: %s\n", static_cast<unsigned long long>(key.id), name.c_str());
     std::printf("hill is %s\n", names.contains(hill) ? "found" : "stale");

@@ -125,7 +125,7 @@ static void check_throwing()
     frail::left = 0;
     bool thrown = false;
     try {
-        (void)map.emplace(2);
+        map.emplace(2);
     } catch (int) {
         thrown = true;
     }
@@ -167,7 +167,7 @@ static void check_throwing_moves()
     key a = map.emplace(1), b = map.emplace(2);
     CHECK(throws_int([&] { map.erase(a); }) && map.at(a).number == 1 && map.size() == 2);
     CHECK(throws_int([&] { map.detach(b); }) && map.at(b).number == 2 && map.size() == 2);
-    CHECK(throws_int([&] { (void)map.emplace(3); }) && map.size() == 2);
+    CHECK(throws_int([&] { map.emplace(3); }) && map.size() == 2);
     key c = map.emplace(4);
     CHECK(c.index() != a.index() && c.index() != b.index() && !map.reattach(b, heavy(5)));
     CHECK(map.detach(b)->number == 2 && throws_int([&] { map.reattach(b, heavy(5)); }) && !map.contains(b) && map.size() == 2);
