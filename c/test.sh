@@ -82,6 +82,7 @@ typed() {
     folder=$(mktemp -d "$out/typed-XXXXXX")
     mkdir "$folder/c" "$folder/home"
     cp -r Makefile slotmap-config* LICENSE* slotmap.h slotmap*.hpp heap.c dist examples python tests "$folder/c"
+    ln -s "$top/rust" "$folder"
     for name in "$@"; do
         sed -n "/<!-- typed $name -->/,/<!-- end -->/s/^    //p" ../docs/C.md | sed "s/x86_64-linux/$machine-linux/" >>"$folder/commands"
     done
@@ -291,6 +292,7 @@ if [ "${1:-}" = source ]; then
             checked "with std, ${kind#-Wl,-B}" "$out/with-std"
         done
     done
+    RUSTUP_HOME=${RUSTUP_HOME:-$HOME/.rustup} CARGO_HOME=${CARGO_HOME:-$HOME/.cargo} typed source
 fi
 
 # pip_into PYTHON FOLDER WHAT ..: by pip, without a network, into a folder from which programs then import.

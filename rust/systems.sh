@@ -1,7 +1,8 @@
 #!/usr/bin/env bash
 # rust/systems.sh
 #
-# Builds the crate and the project's programs for other systems, and compares what the programs print with what the proved ones print:
+# Builds the crate and the project's programs for other systems, and compares what the programs print with what the proved ones print. On the
+# first two the library for C is built too, and makes the calls of c/tests/calls.c and keys.c:
 #
 #     aarch64-unknown-linux-gnu    under qemu-aarch64-static
 #     x86_64-pc-windows-gnu        under wine
@@ -74,10 +75,24 @@ same() {
     echo "$1: the programs print what the proved ones print"
 }
 
+# for_c TARGET LINKER FLAGS RUN ..: the library for C, and its tests calls and keys.
+for_c() {
+    local folder=$out/$1 test
+    "$compiler" "${flags[@]}" --target "$1" -C linker="$2" -C panic=abort --cfg 'feature="std"' -L "$folder" --out-dir "$folder" \
+        --crate-name slotmap_c --crate-type staticlib --extern slotmap_proved "$top/rust/c/src/lib.rs"
+    for test in calls keys; do
+        # shellcheck disable=SC2086
+        "$2" -std=c99 -O2 -I "$top/c" "$top/c/tests/$test.c" "$folder/libslotmap_c.a" $3 -o "$folder/$test.exe"
+        printf '%s: ' "$1"
+        "${@:4}" "$folder/$test.exe"
+    done
+}
+
 system=aarch64-unknown-linux-gnu
 if ! lacks $system aarch64-linux-gnu-gcc qemu-aarch64-static; then
     build $system -C linker=aarch64-linux-gnu-gcc -C target-feature=+crt-static
     same $system qemu-aarch64-static "$out/$system/programs"
+    for_c $system aarch64-linux-gnu-gcc "-lpthread -ldl" qemu-aarch64-static -L /usr/aarch64-linux-gnu
 fi
 
 system=x86_64-pc-windows-gnu
@@ -85,6 +100,7 @@ if ! lacks $system x86_64-w64-mingw32-gcc wine; then
     build $system -C linker=x86_64-w64-mingw32-gcc
     export WINEDEBUG=-all WINEPREFIX=$out/wine
     same $system wine "$out/$system/programs.exe"
+    for_c $system x86_64-w64-mingw32-gcc "-ladvapi32 -luserenv -lws2_32 -lbcrypt -lntdll" wine
 fi
 
 system=wasm32-wasi
