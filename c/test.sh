@@ -15,10 +15,10 @@
 # - `make install` into a folder, with a program by pkg-config and by CMake, static and shared, and the names that the shared library has;
 # - a second `make install` with another prefix and another archive, one into folders with a space, and `make uninstall`; one in
 #   another folder from sources that can't be written; CMake's add_subdirectory and FetchContent;
-# - the Python package, installed by pip into a folder, from source and as the wheel of c/dist: every call, random calls beside a
-#   model, objects that make calls within calls, threads, interpreters, signatures, each allocation refused, and its type hints.
-#   PYTHONS="python3.9 .." names other Pythons than python3. Random calls are made too over the module as gcc's address and
-#   undefined-behaviour sanitizers compile it;
+# - the Python package, installed by pip into a folder, from source, from a source distribution and as the wheel of c/dist: every call,
+#   random calls beside a model, objects that make calls within calls, threads, interpreters, signatures, each allocation refused, and
+#   its type hints. PYTHONS="python3.9 .." names other Pythons than python3. Random calls are made too over the module as gcc's
+#   address and undefined-behaviour sanitizers compile it;
 # - the program of docs/C.md in C, C++ and Python: each prints what the page says, also by the commands that the page has;
 # - the archive for AArch64 under qemu, also by the classes, and that for x86-64-v2; the archive with musl's C library;
 # - that the headers compile for Windows without a warning: there is no archive for Windows to run;
@@ -321,6 +321,17 @@ for python in ${PYTHONS:-python3}; do
         SLOTMAP_ARCHIVE=$archive pip_into "$python" "$out/python-$(basename "$python")" ./python
         python_tests "$python"
         ln -sfn "$PYTHONPATH" "$out/python"
+        # The source distribution has all that it needs, and is the same each time.
+        mkdir -p "$out/sdist" "$out/sdist-again"
+        for folder in sdist sdist-again; do
+            PYTHONDONTWRITEBYTECODE=1 "$python" python/backend.py sdist "$out/$folder" >/dev/null
+        done
+        cmp "$out"/sdist/*.tar.gz "$out"/sdist-again/*.tar.gz
+        SLOTMAP_ARCHIVE=$archive pip_into "$python" "$out/from-sdist-$(basename "$python")" --no-build-isolation "$out"/sdist/*.tar.gz
+        diff -r -x __pycache__ "$out/python/slotmap_proved" "$PYTHONPATH/slotmap_proved" || { echo "c/test.sh: the source distribution has another module" >&2; exit 1; }
+        (cd "$out/sdist" && rm -rf unpacked && mkdir unpacked && cd unpacked && tar xf ../*.tar.gz && cd slotmap_proved-* && env -u SLOTMAP_ARCHIVE \
+            PYTHONDONTWRITEBYTECODE=1 "$python" backend.py sdist .. >/dev/null && cmp ../*.tar.gz ../../*.tar.gz) || { echo "c/test.sh: the source distribution lacks a file" >&2; exit 1; }
+        checked "$("$python" --version), from the source distribution" "$python" tests/package.py
     fi
     wheel=$(echo dist/wheels/*_"$machine".whl)
     if [ -e "$wheel" ]; then

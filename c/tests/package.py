@@ -1,8 +1,10 @@
-"""What a user sees of slotmap_proved beside its calls: signatures, help, hints, and that each interpreter has a module of its own."""
+"""What a user sees of slotmap_proved beside its calls: signatures, help, hints, metadata, and that each interpreter has a module of its
+own. It needs the package as pip installs it."""
 
 import ast
 import gc
 import importlib
+import importlib.metadata
 import inspect
 import os
 import pydoc
@@ -137,10 +139,26 @@ def twice():
     gc.collect()
 
 
+def metadata():
+    """What the package says of itself is what its pyproject.toml says, which Python reads from 3.11 on."""
+    said = importlib.metadata.metadata("slotmap_proved")
+    assert said["Author"] and said["Version"] == slotmap_proved.__version__ and "Typing :: Typed" in said.get_all("Classifier") and said.get_all("Project-URL")
+    try:
+        import tomllib
+    except ImportError:
+        return
+    with open(os.path.join(os.path.dirname(os.path.abspath(__file__)), "../python/pyproject.toml"), "rb") as file:
+        project = tomllib.load(file)["project"]
+    assert (said["Name"], said["Version"], said["Summary"]) == (project["name"], project["version"], project["description"])
+    assert [{"name": said["Author"]}] == project["authors"] and said["Keywords"].split(",") == project["keywords"]
+    assert said["Requires-Python"] == project["requires-python"] and said.get_all("Classifier") == project["classifiers"]
+    assert [tuple(one.split(", ")) for one in said.get_all("Project-URL")] == list(project["urls"].items())
+
+
 def main():
-    for test in signatures, arguments, interpreters, twice:
+    for test in signatures, arguments, interpreters, twice, metadata:
         test()
-    print("the package slotmap_proved: signatures, hints and interpreters: ok")
+    print("the package slotmap_proved: signatures, hints, interpreters and metadata: ok")
 
 
 main()
