@@ -600,8 +600,14 @@ static PyMethodDef side_methods[] = {
     {"reserve", reserve, METH_O, SIGNED("reserve($self, index, /)", "Makes sure of memory for each index up to a number.")},
     {NULL, NULL, 0, NULL},
 };
-static PyType_Slot map_slots[] = {SHARED_SLOTS, {Py_tp_doc, SIGNED("Map()", "Objects under keys that it makes.")}, {Py_tp_new, new_map}, {Py_tp_methods, map_methods}, {Py_mp_ass_subscript, assign}, {0, NULL}};
-static PyType_Slot side_slots[] = {SHARED_SLOTS, {Py_tp_doc, SIGNED("Side()", "Objects under the keys of a map.")}, {Py_tp_new, new_side}, {Py_tp_methods, side_methods}, {Py_mp_ass_subscript, put}, {0, NULL}};
+static char map_text[] = SIGNED("Map()", "Objects under keys that it makes.");
+static char side_text[] = SIGNED("Side()", "Objects under the keys of a map.");
+static PyType_Slot map_slots[] = {
+    SHARED_SLOTS, {Py_tp_doc, map_text}, {Py_tp_new, new_map}, {Py_tp_methods, map_methods}, {Py_mp_ass_subscript, assign}, {0, NULL},
+};
+static PyType_Slot side_slots[] = {
+    SHARED_SLOTS, {Py_tp_doc, side_text}, {Py_tp_new, new_side}, {Py_tp_methods, side_methods}, {Py_mp_ass_subscript, put}, {0, NULL},
+};
 static PyType_Slot iterator_slots[] = {
     {Py_tp_dealloc, iterator_dealloc}, {Py_tp_traverse, iterator_traverse}, {Py_tp_clear, iterator_clear},
     {Py_tp_iter, PyObject_SelfIter},   {Py_tp_iternext, iterator_next},     {0, NULL},
