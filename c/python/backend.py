@@ -31,6 +31,8 @@ NAME, VERSION = "slotmap_proved", "0.7.0"
 HERE = os.path.dirname(os.path.abspath(__file__))
 BESIDE = HERE if os.path.exists(os.path.join(HERE, "slotmap.h")) else os.path.dirname(HERE)
 MACHINES = "x86_64", "aarch64"
+SOURCES = "module.c", "iterator.c", "arguments.c", "table.c"
+HEADERS = "iterator.h", "arguments.h", "table.h"
 INFO = f"{NAME}-{VERSION}.dist-info"
 METADATA = f"""Metadata-Version: 2.4
 Name: slotmap-proved
@@ -83,7 +85,7 @@ def compiled(machine: str) -> bytes:
         command = shlex.split(os.environ.get("CC", "cc")) + ["-std=c11", "-O2", "-fPIC", "-shared", "-s", "-Wl,--build-id=none"]
         command += ["-DPy_LIMITED_API=0x03090000"] if LOCKED else []
         command += [f"-I{sysconfig.get_path('include')}", f"-I{BESIDE}", f"-Wl,--version-script={exports}", "-o", out]
-        command += [os.path.join(HERE, "src", name) for name in ("module.c", "table.c")] + [os.path.join(BESIDE, "heap.c"), archive]
+        command += [os.path.join(HERE, "src", name) for name in SOURCES] + [os.path.join(BESIDE, "heap.c"), archive]
         try:
             subprocess.run(command, check=True)
         except FileNotFoundError:
@@ -146,8 +148,10 @@ def prepare_metadata_for_build_wheel(metadata_directory, config_settings=None) -
 
 def build_sdist(sdist_directory, config_settings=None) -> str:
     files = {"PKG-INFO": metadata()}
-    for path in ("pyproject.toml",), ("backend.py",), ("README.md",), ("src", "module.c"), ("src", "table.c"), ("src", "table.h"):
-        files["/".join(path)] = read(HERE, *path)
+    for name in "pyproject.toml", "backend.py", "README.md":
+        files[name] = read(HERE, name)
+    for name in SOURCES + HEADERS:
+        files[f"src/{name}"] = read(HERE, "src", name)
     for name in ("__init__.py", "_tables.pyi", "py.typed"):
         files[f"{NAME}/{name}"] = read(HERE, NAME, name)
     for path in [("LICENSE",), ("LICENSE-slotmap",), ("LICENSE-archives",), ("slotmap.h",), ("heap.c",), *map(archive_of, MACHINES)]:

@@ -1,8 +1,9 @@
 /* SPDX-License-Identifier: MIT
  * Copyright (c) 2026 the Sevlurga maintainers
  *
- * The module slotmap_proved._tables: the types Map and Side, and their iterators, over CPython's stable interface. */
-#include "table.h"
+ * The module slotmap_proved._tables: the types Map and Side, over CPython's stable interface. */
+#include "arguments.h"
+#include "iterator.h"
 
 #include <stdlib.h>
 
@@ -13,83 +14,6 @@ typedef struct {
     /* Whether an iterator may return one pair again. From 3.14 on a tuple keeps its hash. */
     bool pairs_again;
 } State;
-
-enum of { KEYS, VALUES, ITEMS };
-
-typedef struct {
-    PyObject_HEAD
-    Table *over;
-    /* The pair that the iterator returned last, or null: it returns it again, with other contents, if nobody else has it. */
-    PyObject *pair;
-    Ahead ahead;
-    enum of of;
-} Iterator;
-
-_Static_assert(sizeof(size_t) == sizeof(uint64_t), "a key is read as a size_t");
-
-/* ---- Keys and errors ---- */
-
-/* Reads a key: SLOTMAP_NULL if the object is a number that no map returns, or no integer at all. An exception of `__index__` goes on.
- * Of CPython's calls that read 64 bits PyLong_AsSize_t is the fastest: others read a key byte by byte. */
-static bool read_key(PyObject *object, uint64_t *key)
-{
-    uint64_t number = PyLong_AsSize_t(object);
-    if (number == UINT64_MAX && PyErr_Occurred()) {
-        PyObject *index = NULL;
-        if (PyErr_ExceptionMatches(PyExc_TypeError)) {
-            PyErr_Clear();
-            index = PyNumber_Index(object);
-            number = index == NULL ? UINT64_MAX : PyLong_AsSize_t(index);
-            Py_XDECREF(index);
-        }
-        if (PyErr_Occurred() && !PyErr_ExceptionMatches(PyExc_TypeError) && !PyErr_ExceptionMatches(PyExc_OverflowError))
-            return false;
-        PyErr_Clear();
-    }
-    bool is_key = (number >> 32) % 2 == 1 && (uint32_t)number != 0 && (uint32_t)number != UINT32_MAX;
-    *key = is_key ? number : SLOTMAP_NULL;
-    return true;
-}
-
-/* Raises what a status means. Returns NULL. */
-static PyObject *fail(slotmap_status status, PyObject *key)
-{
-    if (status == SLOTMAP_NO_MEMORY)
-        return PyErr_NoMemory();
-    if (status == SLOTMAP_FULL)
-        PyErr_SetString(PyExc_OverflowError, slotmap_status_text(status));
-    else
-        PyErr_SetObject(PyExc_KeyError, key);
-    return NULL;
-}
-
-/* A pair, of which both references are taken over. A `number` that is null is an error. */
-static PyObject *pair_of(PyObject *number, PyObject *value)
-{
-    PyObject *pair = number == NULL ? NULL : PyTuple_Pack(2, number, value);
-    Py_XDECREF(number);
-    Py_DECREF(value);
-    return pair;
-}
-
-/* The same, in the pair of an iterator if that is free. The end of its old value may run Python code, also a step of this iterator. */
-static PyObject *next_pair(Iterator *self, PyObject *number, PyObject *value)
-{
-    PyObject *pair = self->pair;
-    if (number == NULL || pair == NULL || Py_REFCNT(pair) != 1)
-        return pair_of(number, value);
-    self->pair = NULL;
-    /* The collector may have lost sight of a pair whose contents lead nowhere. */
-    if (!PyObject_GC_IsTracked(pair))
-        PyObject_GC_Track(pair);
-    PyTuple_SetItem(pair, 0, number);
-    PyTuple_SetItem(pair, 1, value);
-    if (self->pair == NULL) {
-        Py_INCREF(pair);
-        self->pair = pair;
-    }
-    return pair;
-}
 
 /* ---- What a map and a side table share ---- */
 
@@ -177,24 +101,6 @@ static PyObject *taken(slotmap_status (*take)(Table *, uint64_t, PyObject **), P
         return value;
     Py_XINCREF(absent);
     return absent != NULL ? absent : fail(status, object);
-}
-
-/* Reads a key and a default, of which either may be named: the first `count` arguments have no names. */
-static bool read_default(const char *call, PyObject *const *arguments, Py_ssize_t count, PyObject *names, PyObject *read[2])
-{
-    Py_ssize_t named = names == NULL ? 0 : PyTuple_Size(names);
-    if (count > 2)
-        return PyErr_Format(PyExc_TypeError, "%s() takes a key and a default, not %zd arguments", call, count + named) != NULL;
-    for (Py_ssize_t i = 0; i < count; i++)
-        read[i] = arguments[i];
-    for (Py_ssize_t i = 0; i < named; i++) {
-        PyObject *name = PyTuple_GetItem(names, i);
-        int at = PyUnicode_CompareWithASCIIString(name, "key") == 0 ? 0 : PyUnicode_CompareWithASCIIString(name, "default") == 0 ? 1 : 2;
-        if (at == 2 || at < count)
-            return PyErr_Format(PyExc_TypeError, at == 2 ? "%s() has no argument '%U'" : "%s() has two values for '%U'", call, name) != NULL;
-        read[at] = arguments[count + i];
-    }
-    return read[0] != NULL || PyErr_Format(PyExc_TypeError, "%s() needs a key", call) != NULL;
 }
 
 static PyObject *get(PyObject *self, PyObject *const *arguments, Py_ssize_t count, PyObject *names)
@@ -320,7 +226,7 @@ static PyObject *pairs(PyObject *self, PyObject *unused)
     return list;
 }
 
-/* ---- Iterators ---- */
+/* ---- Iterations ---- */
 
 /* The state of the module that a table's type is from. A type that Python code makes of it has another destructor. */
 static State *state_of(PyObject *self)
@@ -338,23 +244,7 @@ static PyObject *iterate(PyObject *self, enum of of, bool backwards)
         PyErr_SetString(PyExc_RuntimeError, "the interpreter is ending");
         return NULL;
     }
-    allocfunc alloc = (allocfunc)PyType_GetSlot(state->iterator_type, Py_tp_alloc);
-    Iterator *made = (Iterator *)alloc(state->iterator_type, 0);
-    if (made == NULL)
-        return NULL;
-    /* It may collect, and so run Python code. */
-    made->pair = of == ITEMS && state->pairs_again ? PyTuple_Pack(2, Py_None, Py_None) : NULL;
-    PyErr_Clear();
-    made->of = of;
-    if (!backwards) {
-        table_begin((Table *)self, &made->ahead);
-    } else if (table_begin_last((Table *)self, &made->ahead) != SLOTMAP_OK) {
-        Py_DECREF(made);
-        return PyErr_NoMemory();
-    }
-    Py_INCREF(self);
-    made->over = (Table *)self;
-    return (PyObject *)made;
+    return iterator_over(state->iterator_type, state->pairs_again, (Table *)self, of, backwards);
 }
 
 static PyObject *iterate_keys(PyObject *self) { return iterate(self, KEYS, false); }
@@ -370,82 +260,6 @@ ITERATION(iterate_items, ITEMS, false)
 ITERATION(reversed_keys, KEYS, true)
 ITERATION(reversed_values, VALUES, true)
 ITERATION(reversed_items, ITEMS, true)
-
-/* After its last an iterator lets its table go. One whose keys changed keeps it, and fails again, as that of a dict. */
-static PyObject *no_next(Iterator *self, slotmap_status status)
-{
-    if (status == TABLE_CHANGED) {
-        PyErr_SetString(PyExc_RuntimeError, "the keys changed during iteration");
-    } else {
-        PyObject *over = (PyObject *)self->over, *pair = self->pair;
-        self->over = NULL;
-        self->pair = NULL;
-        Py_XDECREF(over);
-        Py_XDECREF(pair);
-    }
-    return NULL;
-}
-
-static PyObject *step(Iterator *self, Table *over)
-{
-    uint64_t key = 0;
-    PyObject *value = NULL;
-    slotmap_status status = table_step(over, &self->ahead, &key, self->of == KEYS ? NULL : &value);
-    if (status != SLOTMAP_OK)
-        return no_next(self, status);
-    if (self->of == VALUES)
-        return value;
-    PyObject *number = table_key(over, key);
-    return self->of == KEYS ? number : next_pair(self, number, value);
-}
-
-#ifndef Py_GIL_DISABLED
-static PyObject *iterator_next(PyObject *object)
-{
-    Iterator *self = (Iterator *)object;
-    return self->over != NULL ? step(self, self->over) : NULL;
-}
-#else
-static PyObject *iterator_next(PyObject *object)
-{
-    Iterator *self = (Iterator *)object;
-    PyObject *next = NULL, *over;
-    Py_BEGIN_CRITICAL_SECTION(object);
-    over = (PyObject *)self->over;
-    /* Another thread may end the iterator while this one waits for the table. */
-    Py_XINCREF(over);
-    if (over != NULL)
-        next = step(self, (Table *)over);
-    Py_END_CRITICAL_SECTION();
-    Py_XDECREF(over);
-    return next;
-}
-#endif
-
-static int iterator_traverse(PyObject *self, visitproc visit, void *arg)
-{
-    Py_VISIT(Py_TYPE(self));
-    Py_VISIT((PyObject *)((Iterator *)self)->over);
-    Py_VISIT(((Iterator *)self)->pair);
-    return 0;
-}
-
-static int iterator_clear(PyObject *self)
-{
-    no_next((Iterator *)self, SLOTMAP_NO_MORE);
-    return 0;
-}
-
-static void iterator_dealloc(PyObject *self)
-{
-    PyTypeObject *type = Py_TYPE(self);
-    PyObject_GC_UnTrack(self);
-    iterator_clear(self);
-    free(((Iterator *)self)->ahead.all);
-    freefunc end = (freefunc)PyType_GetSlot(type, Py_tp_free);
-    end(self);
-    Py_DECREF(type);
-}
 
 /* ---- Maps ---- */
 
@@ -608,15 +422,9 @@ static PyType_Slot map_slots[] = {
 static PyType_Slot side_slots[] = {
     SHARED_SLOTS, {Py_tp_doc, side_text}, {Py_tp_new, new_side}, {Py_tp_methods, side_methods}, {Py_mp_ass_subscript, put}, {0, NULL},
 };
-static PyType_Slot iterator_slots[] = {
-    {Py_tp_dealloc, iterator_dealloc}, {Py_tp_traverse, iterator_traverse}, {Py_tp_clear, iterator_clear},
-    {Py_tp_iter, PyObject_SelfIter},   {Py_tp_iternext, iterator_next},     {0, NULL},
-};
-
 #define COLLECTED (Py_TPFLAGS_DEFAULT | Py_TPFLAGS_HAVE_GC)
 static PyType_Spec map_spec = {"slotmap_proved._tables.Map", sizeof(Table), 0, COLLECTED | Py_TPFLAGS_BASETYPE, map_slots};
 static PyType_Spec side_spec = {"slotmap_proved._tables.Side", sizeof(Table), 0, COLLECTED | Py_TPFLAGS_BASETYPE, side_slots};
-static PyType_Spec iterator_spec = {"slotmap_proved._tables.Iterator", sizeof(Iterator), 0, COLLECTED, iterator_slots};
 
 static bool add_type(PyObject *module, const char *name, PyType_Spec *spec)
 {
