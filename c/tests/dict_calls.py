@@ -159,11 +159,11 @@ def first_keys():
     assert next(iter(names)) == B + 1 and names.popitem() == (B + 1, 7) and names.copy().popitem() == names.popitem() == (B + 3, 4)
     assert (ages.popitem(), ages.popitem(), ages.setdefault(A, 9), ages.popitem(), ages.exchange(B, 8), next(iter(ages))) == ((A, 0), (B, 1), 9, (A, 9), None, B)
     for take in lambda table: table.popitem(), lambda table: table.pop(next(iter(table))):
-        for count, table in zip((100000, 100000), many(100000)):
+        for table in many(300000):
             began = time.process_time()
             while table:
                 take(table)
-            assert time.process_time() - began < 2, "a loop that takes the first is quadratic"
+            assert time.process_time() - began < 2, "a loop that takes the first key is quadratic"
 
 
 def updates():
