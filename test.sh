@@ -1,7 +1,7 @@
 #!/usr/bin/env bash
 # ./test.sh [quick]
 #
-# Tests the project. `quick` needs no prover, and takes some three minutes on two processors:
+# Tests the project. `quick` needs no prover, and takes some four minutes on two processors:
 #
 #     pages     each page that a script writes, links, names, tables of calls with their tests: tests/docs.sh
 #     archives  that c/dist was built from the sources that are here: c/sources.py
