@@ -3,7 +3,5 @@
 //! What follows from the laws of the replies is in `slotmap_run/proofs/WrongReplies.antt`.
 
 pub mod later_runs;
-pub mod primary;
-pub mod secondary;
 pub mod short_lists;
 pub mod side_lists;

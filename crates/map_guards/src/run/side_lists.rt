@@ -1,7 +1,9 @@
 //! Lists of commands on a side table, alone and beside its primary map.
 
 ghost use Rattle.std.specs.Prelude.{◌≡◌, [], ◌∷◌, None, Some, IfOk, IfSome};
-ghost use Rattle.slotmap_core.specs.Words.{AllByRecursion, HadMemory, FnReturnsAt, Shows};
+ghost use Rattle.slotmap_core.specs.Words.{AllByRecursion, HadMemory, FnReturnsAt, Shows, get, contains_key};
+ghost use Rattle.slotmap_core.specs.declared.secondary.SecondaryCommand.TheVariants as side;
+ghost use Rattle.slotmap_core.specs.declared.secondary.SecondaryReply.TheVariants as side_reply;
 ghost use Rattle.slotmap_core.specs.declared.joined.JoinedCommand.TheVariants as command;
 ghost use Rattle.slotmap_core.specs.declared.joined.JoinedDetachCommand.TheVariants as detaching;
 ghost use Rattle.slotmap_core.specs.declared.joined.JoinedReply.TheVariants as reply;
@@ -58,6 +60,32 @@ where
         one: replies,
         other: others,
     })
+}
+
+/// Guards of `run_secondary`.
+pub fn guards_of_run_secondary<S, K, V, R, L>(
+    alloc: Global,
+    map: &mut S,
+    commands: Vec<SecondaryCommand<K, V>>,
+    look: L,
+) -> Result<Vec<SecondaryReply<V, R>>, Vec<SecondaryCommand<K, V>>>
+where
+    S: Secondary<K, V>,
+    K: Key,
+    V: Drop,
+    R: Drop,
+    L: Fn(&V) -> R + Drop,
+    requires { L.IsAlwaysCallable look }
+    // A list of one `Insert` replies with the value before.
+    // Refuses `run_secondary_answers_the_new_value`: `run` of `run_secondary`.
+    ensures one_insert_returns_the_value_before { IfOk result (λ replies. (k : K) (v : V) (before : _) →
+        commands.items ≡ side.Insert k v ∷ [] → replies.items ≡ side_reply.Old before ∷ [] → before ≡ get (S.pairs map.old) (K.data_of k)) }
+    // A list of one `Contains` says whether the key has a value.
+    // Refuses `run_secondary_says_the_contrary_of_contains`: `run` of `run_secondary`.
+    ensures one_contains_tells_whether_there_is_a_value { IfOk result (λ replies. (k : K) (is : _) →
+        commands.items ≡ side.Contains k ∷ [] → replies.items ≡ side_reply.Flag is ∷ [] → is ≡ contains_key (S.pairs map.old) (K.data_of k)) }
+{
+    run_secondary(alloc, map, commands, look)
 }
 
 /// A list of one `Look` changes nothing.
