@@ -181,7 +181,7 @@ def laws(found):
     lines = ["# What was put is what is got", ""]
     lines += wrapped(
         "`run_new` runs a list of [commands](api/runs.md) on a new map, and returns it with the replies. By its clauses `laws` and `index_stays_small` there is one reply for each command, of "
-        "its kind or one that says why it failed, and it agrees with what the commands before it and their replies tell, where each key is `absent` at first (`ReadsWhatWasPut`). An insert "
+        "its kind or one that says why it failed. The reply agrees with what the commands before it and their replies tell (`ReadsWhatWasPut`). Each key is `absent` at first. An insert "
         "returns an `absent` key, which is never `absent` again: so no two inserts return the same key. It is newer than each key that was returned at its index before, none of which is live or "
         "detached then. In a list of fewer than 2^32 commands no index is above the most keys at one moment (`IndexStaysSmall`, from three zeros). Here `data_of` reads a key's index and "
         f"version, and `looks v r` says that `look` may return r for v. The laws rest on these {len(LAWS)} definitions, on keys, and on no map, slot or machine.", width=190)
