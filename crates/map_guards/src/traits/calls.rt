@@ -2,18 +2,15 @@
 #![tactic(auto, using(slotmap_core::proofs::ForCallers::Callers::keys))]
 
 ghost use Rattle.std.specs.FinMap as map;
-ghost use Rattle.std.specs.Prelude.{◌≡◌, Some, None, IfOk, IfSome, IfNone, OnOk};
-ghost use Rattle.slotmap_core.specs.Words.{Key as KeyOf, IsLive, places, IsCloneOf, ClonesEqual, Writes};
-ghost use Rattle.slotmap_core.specs.Words.{start_live};
+ghost use Rattle.std.specs.Prelude.{◌≡◌, Some, None, IfOk, IfSome, IfNone, OnOk, ℕ};
+ghost use Rattle.slotmap_core.specs.Words.{Key as KeyOf, IsLive, places, IsCloneOf, ClonesEqual};
 
 use slotmap_basic::SlotMap;
-use slotmap_core::errors::OutOfMemory;
 use slotmap_core::keys::Key;
 use slotmap_core::primary::Primary;
-use slotmap_core::serial::SlotRecord;
 use slotmap_dense::DenseSlotMap;
 use slotmap_hop::HopSlotMap;
-use std::alloc::AllocError;
+use std::alloc::{AllocError, Global};
 
 /// One call each of a primary map.
 pub trait Calls<K: Key, V: Drop>: Primary<K, V> {
@@ -84,19 +81,20 @@ pub trait Calls<K: Key, V: Drop>: Primary<K, V> {
         ensures some { IfSome result (λ pair. map.get (Self.content self.now).live (K.data_of pair.0) ≡ Some pair.1.now) }
         ensures none { IfNone result (map.len (Self.content self.now).live ≡ 0) };
 
-    /// Guards of `to_slots`.
-    fn list(&self) -> Result<Vec<SlotRecord<V>>, OutOfMemory>
+    /// A map that is read from the list of another has its keys, each with a clone of its value. Where
+    /// clones equal their values, it has the same values, as many slots, and the vacant slots have the
+    /// same next versions.
+    /// Refuses `to_slots_leaves_the_last_slot_out`, `to_slots_writes_the_first_value_everywhere`,
+    /// `to_slots_writes_odd_versions_alone`, `to_slots_writes_the_slots_in_reverse`: `contents` and
+    /// `writes_if_clones_equal` of `to_slots`, and `reads` of `from_slots`.
+    fn read_again(&self, alloc: Global) -> Option<Self>
     where
         V: Clone,
-        // Where clones equal their values, the list has a record for each slot: the version and the value
-        // of a live key, and the version before the next key of a vacant slot.
-        // Refuses `to_slots_leaves_the_last_slot_out`, `to_slots_writes_the_first_value_everywhere`,
-        // `to_slots_writes_odd_versions_alone`, `to_slots_writes_the_slots_in_reverse`:
-        // `writes_if_clones_equal` of `to_slots`.
-        ensures to_slots_writes_each_slot { ClonesEqual V.is_clone → IfOk result (λ list. Writes (Self.content self.now) list.items) }
-        // The list has a clone of each value.
-        // Holds by `contents` of `to_slots`.
-        ensures to_slots_clones_each_value { IfOk result (λ list. (key : KeyOf) → IsCloneOf V.is_clone (map.get (Self.content self.now).live key) (map.get (start_live list.items) key)) };
+        ensures clones { IfSome result (λ read. (key : KeyOf) → IsCloneOf V.is_clone (map.get (Self.content self.now).live key) (map.get (Self.content read).live key)) }
+        ensures values { ClonesEqual V.is_clone → IfSome result (λ read. (Self.content read).live ≡ (Self.content self.now).live) }
+        ensures slots { ClonesEqual V.is_clone → IfSome result (λ read. places (Self.content read) ≡ places (Self.content self.now)) }
+        ensures next { ClonesEqual V.is_clone → IfSome result (λ read. (index version : ℕ) →
+            map.get (Self.content self.now).next index ≡ Some version → map.get (Self.content read).next index ≡ Some version) };
 }
 
 impl<K: Key, V: Drop> Calls<K, V> for SlotMap<K, V> {
@@ -144,11 +142,17 @@ impl<K: Key, V: Drop> Calls<K, V> for SlotMap<K, V> {
         self.iter().next()
     }
 
-    fn list(&self) -> Result<Vec<SlotRecord<V>>, OutOfMemory>
+    fn read_again(&self, alloc: Global) -> Option<Self>
     where
         V: Clone,
     {
-        self.to_slots()
+        let Ok(list) = self.to_slots() else {
+            return None;
+        };
+        let Ok(read) = SlotMap::from_slots(alloc, list) else {
+            return None;
+        };
+        Some(read)
     }
 }
 
@@ -197,11 +201,17 @@ impl<K: Key, V: Drop> Calls<K, V> for DenseSlotMap<K, V> {
         self.iter().next()
     }
 
-    fn list(&self) -> Result<Vec<SlotRecord<V>>, OutOfMemory>
+    fn read_again(&self, alloc: Global) -> Option<Self>
     where
         V: Clone,
     {
-        self.to_slots()
+        let Ok(list) = self.to_slots() else {
+            return None;
+        };
+        let Ok(read) = DenseSlotMap::from_slots(alloc, list) else {
+            return None;
+        };
+        Some(read)
     }
 }
 
@@ -250,10 +260,16 @@ impl<K: Key, V: Drop> Calls<K, V> for HopSlotMap<K, V> {
         self.iter().next()
     }
 
-    fn list(&self) -> Result<Vec<SlotRecord<V>>, OutOfMemory>
+    fn read_again(&self, alloc: Global) -> Option<Self>
     where
         V: Clone,
     {
-        self.to_slots()
+        let Ok(list) = self.to_slots() else {
+            return None;
+        };
+        let Ok(read) = HopSlotMap::from_slots(alloc, list) else {
+            return None;
+        };
+        Some(read)
     }
 }
