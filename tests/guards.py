@@ -74,8 +74,6 @@ REASONS = {
     ("*", "insert", "written"): "it says something of the entry alone, of which no proved caller makes more: contracts.lock tells of a change",
     ("*", "extend_refs", "extends"): "it has the words of `extend`, which callers go by",
     ("slotmap_secondary", "extend_refs", "grows"): "it has the words of `extend`, which has a guard",
-    ("slotmap_basic", "from_slots", "accepted"): "it has the words of `DenseSlotMap`, which has a guard",
-    ("slotmap_basic", "from_slots", "err"): "it has the words of `DenseSlotMap`, which has a guard",
     ("slotmap_basic", "new", "starts"): "it is `with_key`, which has a guard",
     ("slotmap_dense", "clone_from", "order"): "it has the words of `clone`, which has a guard",
     ("slotmap_dense", "reattach", "unchanged"): "its `valid` says more",

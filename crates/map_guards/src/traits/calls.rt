@@ -2,12 +2,15 @@
 #![tactic(auto, using(slotmap_core::proofs::ForCallers::Callers::keys))]
 
 ghost use Rattle.std.specs.FinMap as map;
-ghost use Rattle.std.specs.Prelude.{◌≡◌, Some, None, IfOk, IfSome, IfNone, OnOk, ℕ};
+ghost use Rattle.std.specs.Prelude.{◌≡◌, Some, None, IfOk, IfSome, IfNone, OnOk, Err, [], ℕ};
 ghost use Rattle.slotmap_core.specs.Words.{Key as KeyOf, IsLive, places, IsCloneOf, ClonesEqual};
+ghost use Rattle.slotmap_core.specs.declared.errors.SlotsError.TheVariants.{FirstNotEmpty};
 
 use slotmap_basic::SlotMap;
+use slotmap_core::errors::SlotsError;
 use slotmap_core::keys::Key;
 use slotmap_core::primary::Primary;
+use slotmap_core::serial::SlotRecord;
 use slotmap_dense::DenseSlotMap;
 use slotmap_hop::HopSlotMap;
 use std::alloc::{AllocError, Global};
@@ -95,6 +98,11 @@ pub trait Calls<K: Key, V: Drop>: Primary<K, V> {
         ensures slots { ClonesEqual V.is_clone → IfSome result (λ read. places (Self.content read) ≡ places (Self.content self.now)) }
         ensures next { ClonesEqual V.is_clone → IfSome result (λ read. (index version : ℕ) →
             map.get (Self.content self.now).next index ≡ Some version → map.get (Self.content read).next index ≡ Some version) };
+
+    /// A list without slots is refused, since it lacks the first one.
+    /// Refuses `from_slots_accepts_every_list`: `accepted` and `err` of `from_slots`.
+    fn read(alloc: Global, list: Vec<SlotRecord<V>>) -> Result<Self, SlotsError>
+        ensures { list.items ≡ [] → result ≡ Err FirstNotEmpty };
 }
 
 impl<K: Key, V: Drop> Calls<K, V> for SlotMap<K, V> {
@@ -153,6 +161,12 @@ impl<K: Key, V: Drop> Calls<K, V> for SlotMap<K, V> {
             return None;
         };
         Some(read)
+    }
+
+    fn read(alloc: Global, list: Vec<SlotRecord<V>>) -> Result<Self, SlotsError>
+        ensures { list.items ≡ [] → result ≡ Err FirstNotEmpty }
+    {
+        SlotMap::from_slots(alloc, list)
     }
 }
 
@@ -213,6 +227,12 @@ impl<K: Key, V: Drop> Calls<K, V> for DenseSlotMap<K, V> {
         };
         Some(read)
     }
+
+    fn read(alloc: Global, list: Vec<SlotRecord<V>>) -> Result<Self, SlotsError>
+        ensures { list.items ≡ [] → result ≡ Err FirstNotEmpty }
+    {
+        DenseSlotMap::from_slots(alloc, list)
+    }
 }
 
 impl<K: Key, V: Drop> Calls<K, V> for HopSlotMap<K, V> {
@@ -271,5 +291,11 @@ impl<K: Key, V: Drop> Calls<K, V> for HopSlotMap<K, V> {
             return None;
         };
         Some(read)
+    }
+
+    fn read(alloc: Global, list: Vec<SlotRecord<V>>) -> Result<Self, SlotsError>
+        ensures { list.items ≡ [] → result ≡ Err FirstNotEmpty }
+    {
+        HopSlotMap::from_slots(alloc, list)
     }
 }
