@@ -47,8 +47,6 @@ REASONS = {
     ("*", "keys", "listing"): "its `in_order` says more",
     ("*", "values", "listing"): "its `in_order` says more",
     ("*", "to_slots", "writes"): "`writes_if_clones_equal` and `contents` are what callers go by",
-    ("slotmap_secondary", "to_slots", "contents"): "`writes_if_clones_equal` is what callers go by",
-    ("slotmap_sparse", "to_slots", "contents"): "`writes_if_clones_equal` is what callers go by",
     ("*", "to_slots", "contents_if_clones_equal"): "its `contents` says more",
     ("*", "drain", "stays"): "of all steps of a drain, of which no proved caller makes more: contracts.lock tells of a change",
     ("*", "drain", "lists"): "of all steps of a drain, of which no proved caller makes more: contracts.lock tells of a change",

@@ -2,8 +2,9 @@
 
 ghost use Rattle.std.specs.FinMap as map;
 ghost use Rattle.std.specs.Iterator.{IsFinite};
-ghost use Rattle.std.specs.Prelude.{◌≡◌, IfOk, IfErr, IsOk, ◌+◌, ◌-◌, ◌≤◌, ◌⊎◌, true};
-ghost use Rattle.slotmap_core.specs.Words.{ClonesEqual, start_live, Accepts, RefusesStart, keyed, side_list_limit};
+ghost use Rattle.std.specs.Prelude.{◌≡◌, [], Err, IfOk, IfSome, ◌+◌, ◌-◌, ◌≤◌, ◌⊎◌, true};
+ghost use Rattle.slotmap_core.specs.Words.{Key as KeyOf, ClonesEqual, IsCloneOf, get};
+ghost use Rattle.slotmap_core.specs.declared.errors.SlotsError.TheVariants.{FirstNotEmpty};
 ghost use Rattle.slotmap_secondary.specs.Written.{WritesSide};
 
 use slotmap_core::errors::{OutOfMemory, SlotsError};
@@ -24,18 +25,32 @@ pub fn to_slots_writes_each_slot<K: Key, V: Clone + Drop>(
     store.to_slots()
 }
 
-/// The keys are those of odd versions, each with its value. A list is read only if it is short, its
-/// first version is even, and each slot has a value where its version is odd. The first error that
-/// applies is returned.
-/// Refuses `from_slots_reads_odd_versions_without_a_value`: `contents`, `accepted` and `err` of
+/// A map that is read from the list of another has its keys, each with a clone of its value.
+/// Refuses `from_slots_reads_odd_versions_without_a_value`: `contents` of `to_slots`, and `contents` of
 /// `from_slots`.
-pub fn from_slots_reads_each_slot<K: Key, V: Drop>(
+pub fn map_is_read_again<K: Key, V: Clone + Drop>(
+    store: &SecondaryMap<K, V>,
+    alloc: Global,
+) -> Option<SecondaryMap<K, V>>
+    ensures { IfSome result (λ read. (key : KeyOf) → IsCloneOf V.is_clone (get store.now.pairs key) (get read.pairs key)) }
+{
+    let Ok(list) = store.to_slots() else {
+        return None;
+    };
+    match SecondaryMap::from_slots(alloc, list) {
+        Ok(read) => Some(read),
+        Err(_) => None,
+    }
+}
+
+/// A list without slots is refused, since it lacks the first one.
+/// Holds by `accepted` and `err` of `from_slots`.
+pub fn empty_list_is_refused<K: Key, V: Drop>(
     alloc: Global,
     list: Vec<SlotRecord<V>>,
 ) -> Result<SecondaryMap<K, V>, SlotsError>
-    ensures contents { IfOk result (λ made. keyed made.pairs ≡ start_live list.items) }
-    ensures accepted { IsOk result → Accepts list.items side_list_limit }
-    ensures err { IfErr result (RefusesStart list.items side_list_limit) }
+    requires { list.items ≡ [] }
+    ensures { result ≡ Err FirstNotEmpty }
 {
     SecondaryMap::from_slots(alloc, list)
 }

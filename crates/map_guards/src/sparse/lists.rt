@@ -1,7 +1,8 @@
 //! Lists of slots.
 
-ghost use Rattle.std.specs.Prelude.{◌≡◌, IfOk, IfErr, IsOk};
-ghost use Rattle.slotmap_core.specs.Words.{ClonesEqual, start_live, Accepts, RefusesStart, keyed, side_list_limit};
+ghost use Rattle.std.specs.Prelude.{◌≡◌, [], Err, IfOk, IfSome};
+ghost use Rattle.slotmap_core.specs.Words.{Key as KeyOf, ClonesEqual, IsCloneOf, get};
+ghost use Rattle.slotmap_core.specs.declared.errors.SlotsError.TheVariants.{FirstNotEmpty};
 ghost use Rattle.slotmap_sparse.specs.Written.{WritesSparse};
 
 use slotmap_core::errors::{OutOfMemory, SlotsError};
@@ -21,19 +22,39 @@ pub fn to_slots_writes_each_index<K: Key, V: Clone + Drop>(
     store.to_slots()
 }
 
-/// The keys are those of odd versions, each with its value. A list is read only if it is short, its
-/// first version is even, and each slot has a value where its version is odd. The first error that
-/// applies is returned. So it is with the caller's own hasher.
-/// Refuses `from_slots_reads_each_slot_at_twice_its_index`: `contents`, `accepted` and `err` of
-/// `from_slots`, and of `from_slots_with_hasher`.
-pub fn from_slots_reads_each_slot<K: Key, V: Drop>(
+/// A map that is read from the list of another, also with a hasher of the caller's, has its keys, each
+/// with a clone of its value.
+/// Refuses `from_slots_reads_each_slot_at_twice_its_index`: `contents` of `to_slots`, and `contents` of
+/// `from_slots` and of `from_slots_with_hasher`.
+pub fn map_is_read_again<K: Key, V: Clone + Drop>(
+    store: &SparseSecondaryMap<K, V>,
+    alloc: Global,
+    own: Option<DefaultHasher>,
+) -> Option<SparseSecondaryMap<K, V>>
+    ensures { IfSome result (λ read. (key : KeyOf) → IsCloneOf V.is_clone (get store.now.pairs key) (get read.pairs key)) }
+{
+    let Ok(list) = store.to_slots() else {
+        return None;
+    };
+    let read = match own {
+        Some(hasher) => SparseSecondaryMap::from_slots_with_hasher(alloc, list, hasher),
+        None => SparseSecondaryMap::from_slots(alloc, list),
+    };
+    match read {
+        Ok(map) => Some(map),
+        Err(_) => None,
+    }
+}
+
+/// A list without slots is refused, since it lacks the first one.
+/// Holds by `accepted` and `err` of `from_slots`, and `accepted` and `err` of `from_slots_with_hasher`.
+pub fn empty_list_is_refused<K: Key, V: Drop>(
     alloc: Global,
     list: Vec<SlotRecord<V>>,
     own: Option<DefaultHasher>,
 ) -> Result<SparseSecondaryMap<K, V>, SlotsError>
-    ensures contents { IfOk result (λ made. keyed made.pairs ≡ start_live list.items) }
-    ensures accepted { IsOk result → Accepts list.items side_list_limit }
-    ensures err { IfErr result (RefusesStart list.items side_list_limit) }
+    requires { list.items ≡ [] }
+    ensures { result ≡ Err FirstNotEmpty }
 {
     match own {
         Some(hasher) => SparseSecondaryMap::from_slots_with_hasher(alloc, list, hasher),
