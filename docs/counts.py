@@ -62,7 +62,7 @@ def minutes_of(crates):
 
 def is_example(path):
     """Whether a file of a crate of callers is of an example: neither a guard nor what a program makes."""
-    return not re.search(r"/(src|proofs)/(guards|calls|sums|main)\b", path)
+    return not re.search(r"/(src|proofs)/(guards|calls|main)\b", path)
 
 
 def proof_files(crates):

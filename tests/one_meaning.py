@@ -24,7 +24,7 @@ SOURCES = {
     'guards': 'what callers rely on in the calls of a structure, or of those for C',
     'basic dense hop sparse': 'that map: its calls in rows, or guards of its contracts',
     'run': 'runs: of scripts, or guards of their contracts',
-    'calls sums': 'calls of a structure, of callers or of the scheduler itself, and sums of what the calls of callers return',
+    'calls': 'calls of a structure, of callers or of the scheduler itself',
     'debug': 'the text of a type in a debugger',
     'handle': 'a handle for C: of a map, or of a side table',
     'links search rows': 'links of nodes or slots; a search along them; rows of a layout or of a file',

@@ -48,10 +48,11 @@ PITCH, LEFT, TOPS = 152, 22, [698, 598, 460, 316, 186, 66]
 HEIGHT = 56
 
 
-# The library of a program stands as the program, and guards of the maps as tests.
+# The library of a program stands as the program, that of callers as callers, and guards of the maps as tests.
 LIBRARIES = {
     "slotmap_script": "slotrun",
     "map_guards": TESTS,
+    "callers_sums": CALLERS,
     **{f"{it}_callers": CALLERS for it in ("list", "lists", "graph", "paths", "scene", "scheduler", "entities")},
 }
 

@@ -20,8 +20,8 @@ LIBRARIES = {
 PROGRAMS = ("slotmap_rows", "primary_rows", "secondary_rows", "joined_rows", "slotmap_script", "slotrun")
 # Crates of Rattle that are no part of either.
 NOT_ERASED = {
-    "map_guards", "slotdemo", "slotmap_c", "slotmap_examples", "list_callers", "lists_callers", "graph_callers", "paths_callers", "scene_callers",
-    "scheduler_callers", "entities_callers",
+    "map_guards", "slotdemo", "slotmap_c", "slotmap_examples", "callers_sums", "list_callers", "lists_callers", "graph_callers", "paths_callers",
+    "scene_callers", "scheduler_callers", "entities_callers",
 }
 LIBRARY_TREE, PROGRAM_TREE = "rust/src/proved", "rust/check/src/programs"
 

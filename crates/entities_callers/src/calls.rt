@@ -1,7 +1,7 @@
 //! Calls of each kind on worlds of numbers, with numbers as components. [`run`] alone names the tables. Those that return a `bool` say whether all
 //! that may fail succeeded.
 
-use crate::sums::{EMPTY, SIZE, Sum, keep, pick, tell};
+use callers_sums::{EMPTY, SIZE, Sum, keep, pick, tell};
 use slotmap::{DefaultKey, SecondaryMap, SparseSecondaryMap};
 use slotmap_entities::{Apart, CloneTables, First, Kind, Second, Table, Tables, World};
 use std::marker::PhantomData;

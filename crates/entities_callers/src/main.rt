@@ -12,7 +12,6 @@ mod guards;
 mod heirs;
 mod reaper;
 mod stores;
-mod sums;
 mod triplets;
 mod twins;
 

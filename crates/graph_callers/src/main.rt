@@ -12,7 +12,6 @@ mod forward;
 mod guards;
 mod outward;
 mod room;
-mod sums;
 
 use std::process::ExitCode;
 

@@ -1,6 +1,6 @@
 //! Calls of each kind on lists of numbers. Those that return a `bool` say whether all that may fail succeeded.
 
-use crate::sums::{EMPTY, SIZE, Sum, keep, pick, tell};
+use callers_sums::{EMPTY, SIZE, Sum, keep, pick, tell};
 use slotmap_list::{Cursor, PushError, StableList};
 
 type List = StableList<Cursor, u64>;

@@ -8,7 +8,6 @@ mod calls;
 mod cursors;
 mod guards;
 mod room;
-mod sums;
 
 use std::process::ExitCode;
 

@@ -1,6 +1,6 @@
 //! Calls of each kind on several lists of numbers. Those that return a `bool` say whether all that may fail succeeded.
 
-use crate::sums::{EMPTY, SIZE, Sum, keep, pick, tell};
+use callers_sums::{EMPTY, SIZE, Sum, keep, pick, tell};
 use slotmap_lists::{Cursor, StableLists};
 
 type Lists = StableLists<Cursor, u64>;

@@ -8,7 +8,6 @@ mod cache;
 mod calls;
 mod guards;
 mod queues;
-mod sums;
 mod wheel;
 
 use std::process::ExitCode;

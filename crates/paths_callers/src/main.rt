@@ -8,7 +8,6 @@ mod calls;
 mod connected;
 mod guards;
 mod routes;
-mod sums;
 
 use std::process::ExitCode;
 

@@ -1,6 +1,6 @@
 //! Calls of each kind on scenes of numbers. Those that return a `bool` say whether all that may fail succeeded.
 
-use crate::sums::{EMPTY, SIZE, Sum, keep, pick, tell};
+use callers_sums::{EMPTY, SIZE, Sum, keep, pick, tell};
 use slotmap::DefaultKey;
 use slotmap_scene::world::Offset;
 use slotmap_scene::{Scene, Visit};

@@ -14,7 +14,6 @@ mod prunes;
 mod reorder;
 mod room;
 mod searches;
-mod sums;
 
 use std::process::ExitCode;
 

@@ -1,6 +1,6 @@
 //! Calls of each kind on schedulers of numbers. Those that return a `bool` say whether all that may fail succeeded.
 
-use crate::sums::{EMPTY, SIZE, Sum, chance, keep, pick, tell};
+use callers_sums::{EMPTY, SIZE, Sum, chance, keep, pick, tell};
 use slotmap::DefaultKey;
 use slotmap_scheduler::Scheduler;
 

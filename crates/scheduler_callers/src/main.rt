@@ -7,7 +7,6 @@
 mod calls;
 mod guards;
 mod jobs;
-mod sums;
 mod timer;
 
 use std::process::ExitCode;

@@ -1,4 +1,5 @@
-//! Sums of numbers, items by chance, and lists of items.
+//! What the programs of the structures' callers share: sums of numbers, items by chance, and lists of items.
+#![tactic(auto)]
 
 /// How many elements there are.
 pub const SIZE: u64 = 1000;
