@@ -96,10 +96,13 @@ fn change(rt: &HostRuntime, list: &mut List, cursors: &mut Vec<Cursor>) -> bool 
         && tell(rt, "put", sum_of(list))
         && tell(rt, "moves", move_all(list, cursors.as_slice()))
         && tell(rt, "moved", sum_of(list));
+    if !done {
+        return false;
+    }
     write_and_retain(list, cursors.as_slice());
     let removed = tell(rt, "removed", remove_some(list, cursors.as_slice()));
     match list.clone() {
-        Ok(copy) => done && removed && tell(rt, "copied", consume(copy)),
+        Ok(copy) => removed && tell(rt, "copied", consume(copy)),
         Err(_) => false,
     }
 }
